@@ -6,8 +6,9 @@ use native.Mathlib.Omega.{arith}
 use lib.ListN.{length, getD, take}
 use Rattle.std.specs.Written.{decimal}
 use Rattle.std.proofs.shelf.Lists.{take-more, length-take-le}
-use Rattle.texts.specs.Words.{comma}
-use Rattle.texts.specs.Written.{line, commas}
+use Rattle.reader.specs.Words.{comma}
+use Rattle.reader.specs.Lists.{commas}
+use Rattle.reader.specs.Readings.{line}
 
 pub line-put : (a : List ℕ) {b c d : List ℕ} (key value : List ℕ) → b ≡ a ++ key → c ≡ b ++ value → d ≡ c ++ 10 ∷ [] → d ≡ a ++ line key value []
 line-put a key value e f g = g ∙ ap (λ x. x ++ 10 ∷ []) (f ∙ ap (λ x. x ++ value) e) ∙ append-assoc (a ++ key) value (10 ∷ []) ∙ append-assoc a key (value ++ 10 ∷ [])

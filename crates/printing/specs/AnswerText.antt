@@ -10,9 +10,11 @@ use Rattle.fault.specs.declared.Fault.{Fault}
 use Rattle.fault.specs.Faults.{refusal-number, layer-name}
 use Rattle.texts.specs.Both.{read-both}
 use Rattle.printing.specs.FaultLine.{fault-line}
-use Rattle.texts.specs.Models.{TermsModel, DayModel}
-use Rattle.texts.specs.Words.{marks-key, lots-key}
-use Rattle.texts.specs.Written.{line, terms-text}
+use Rattle.day.specs.Models.{DayModel}
+use Rattle.terms.specs.Models.{TermsModel}
+use Rattle.reader.specs.Words.{marks-key, lots-key}
+use Rattle.reader.specs.Readings.{line}
+use Rattle.terms.specs.Written.{terms-text}
 
 -- four lines: the refusal's number, the layer, the place and the line as it stands
 abbrev pub fault-text : List ℕ → List ℕ → Fault → List ℕ

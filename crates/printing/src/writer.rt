@@ -4,10 +4,11 @@ ghost use mathlib.Core.List.{[], _++_};
 ghost use Rattle.std.specs.Of.Vec.{vec-items};
 ghost use Rattle.std.specs.Vec.{made};
 ghost use Rattle.std.specs.Written.{decimal};
-ghost use Rattle.texts.specs.Written.{line, commas};
+ghost use Rattle.reader.specs.Lists.{commas};
+ghost use Rattle.reader.specs.Readings.{line};
+use reader::words;
 use std::alloc::AllocError;
 use std::alloc::Global;
-use texts::words;
 
 // One line more: a key, a value and a line end.
 pub fn push_line(out: &mut Vec<u8>, key: &[u8], value: &[u8]) -> Result<(), AllocError>

@@ -1,3 +1,6 @@
 pub mod Bytes
+pub mod Words
 pub mod Readings
 pub mod Readers
+pub mod Lists
+pub mod Answers

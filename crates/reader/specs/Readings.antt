@@ -1,6 +1,6 @@
 -- What a text says at a place: a value and the place after it, or a fault. Assumes nothing.
 use mathlib.Core.Bool.{Bool, cond, not, _&&_, _||_}
-use mathlib.Core.List.{List, [], _∷_}
+use mathlib.Core.List.{List, [], _∷_, _++_}
 use Prim.Native.Nat.{ℕ, _+_, _-_, _*_}
 use lib.Dec.{eqb, leb, ltb}
 use lib.ListN.{length, getD, take, drop}
@@ -76,3 +76,7 @@ number-in low high refusal = number-if (λ n. leb low n && leb n high) refusal
 -- a line: a key, what body reads, and a line end
 abbrev pub line-of : {X : Type 0} → List ℕ → Reading X → Reading X
 line-of key body l t p = bind (expect key l t p) (λ k. bind (body l t (k .1)) (λ x. bind (end-line l t (x .1)) (λ e. Ok (x .0, e .1))))
+
+-- the same line as it is written, with byte 10 for its end, and what follows it
+abbrev pub line : List ℕ → List ℕ → List ℕ → List ℕ
+line key value rest = key ++ (value ++ (10 ∷ rest))

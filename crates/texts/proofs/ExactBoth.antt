@@ -12,17 +12,18 @@ use Rattle.fault.specs.declared.Layer.{Layer}
 use Rattle.fault.specs.declared.Layer.the-variants.{Terms as InTerms, Day as InDay}
 use Rattle.reader.specs.Readings.{bind}
 use Rattle.reader.proofs.Exact.{bind-inv, bind-on, ok-same, cond-inv-not}
-use Rattle.texts.specs.declared.model.Day.{Day}
-use Rattle.texts.specs.declared.model.Terms.{Terms}
-use Rattle.texts.specs.declared.read_error.ReadError.{ReadError}
-use Rattle.texts.specs.declared.read_error.ReadError.the-variants.{Faulty, NoMemory}
-use Rattle.texts.specs.Answers.{Gives}
+use Rattle.day.specs.declared.model.Day.{Day}
+use Rattle.terms.specs.declared.model.Terms.{Terms}
+use Rattle.reader.specs.declared.read_error.ReadError.{ReadError}
+use Rattle.reader.specs.declared.read_error.ReadError.the-variants.{Faulty, NoMemory}
+use Rattle.reader.specs.Answers.{Gives}
 use Rattle.texts.specs.Both.{most-bytes, short, read-both, both-model, Admissible, ReadsExactly}
-use Rattle.texts.specs.DayText.{read-day}
-use Rattle.texts.specs.Models.{TermsModel, DayModel, terms-model, day-model}
-use Rattle.texts.specs.TermsText.{read-terms}
-use Rattle.texts.proofs.ExactDay.{day-sound, day-full}
-use Rattle.texts.proofs.ExactTerms.{terms-sound, terms-full}
+use Rattle.day.specs.DayText.{read-day}
+use Rattle.terms.specs.Models.{TermsModel, terms-model}
+use Rattle.day.specs.Models.{DayModel, day-model}
+use Rattle.terms.specs.TermsText.{read-terms}
+use Rattle.day.proofs.ExactDay.{day-sound, day-full}
+use Rattle.terms.proofs.ExactTerms.{terms-sound, terms-full}
 
 short-sound : (l : Layer) (t : List ℕ) (u : Unit {0}) → short l t ≡ Ok u → length t ≤ most-bytes
 short-sound l t u e = ltb-false _ _ (cond-inv-not _ _ _ _ e .0)

@@ -13,14 +13,16 @@ use Rattle.fault.specs.declared.Layer.the-variants.{Terms as InTerms, Day as In
 use Rattle.fault.specs.declared.Refusal.the-variants.{TextTooLong}
 use Rattle.fault.specs.Faults.{fault}
 use Rattle.reader.specs.Readings.{bind}
-use Rattle.texts.specs.declared.model.Day.{Day}
-use Rattle.texts.specs.declared.model.Terms.{Terms}
-use Rattle.texts.specs.declared.read_error.ReadError.{ReadError}
-use Rattle.texts.specs.declared.read_error.ReadError.the-variants.{Faulty, NoMemory}
-use Rattle.texts.specs.Models.{TermsModel, DayModel, terms-model, day-model}
-use Rattle.texts.specs.TermsText.{read-terms}
-use Rattle.texts.specs.DayText.{read-day}
-use Rattle.texts.specs.Written.{terms-text, day-text, TermsInRange, DayInRange}
+use Rattle.day.specs.declared.model.Day.{Day}
+use Rattle.terms.specs.declared.model.Terms.{Terms}
+use Rattle.reader.specs.declared.read_error.ReadError.{ReadError}
+use Rattle.reader.specs.declared.read_error.ReadError.the-variants.{Faulty, NoMemory}
+use Rattle.terms.specs.Models.{TermsModel, terms-model}
+use Rattle.day.specs.Models.{DayModel, day-model}
+use Rattle.terms.specs.TermsText.{read-terms}
+use Rattle.day.specs.DayText.{read-day}
+use Rattle.terms.specs.Written.{terms-text, TermsInRange}
+use Rattle.day.specs.Written.{day-text, DayInRange}
 
 -- the most bytes that a text may have
 abbrev pub most-bytes : ℕ

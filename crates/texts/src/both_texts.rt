@@ -1,17 +1,17 @@
 // Both texts, their lengths first.
 ghost use mathlib.Core.Path.{_≡_};
-ghost use Rattle.texts.specs.Answers.{Gives};
+ghost use Rattle.reader.specs.Answers.{Gives};
 ghost use Rattle.texts.specs.Both.{short as short-text, read-both, both-model, ReadsExactly};
-use crate::Day;
-use crate::ReadError;
-use crate::Terms;
-use crate::day_text::read_day;
-use crate::read_error::ReadErrorFromFault;
-use crate::terms_text::read_terms;
+use day::Day;
+use day::read_day;
 use fault::Fault;
 use fault::Layer;
 use fault::Refusal;
+use reader::ReadError;
+use reader::ReadErrorFromFault;
 use std::alloc::Global;
+use terms::Terms;
+use terms::read_terms;
 
 // The most bytes that a text may have.
 pub const MOST_BYTES: usize = 65535;

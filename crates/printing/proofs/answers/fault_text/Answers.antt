@@ -4,7 +4,7 @@ use lib.Chars.{codes}
 use Rattle.std.specs.Of.Vec.{vec-items}
 use Rattle.std.specs.Written.{decimal}
 use Rattle.fault.specs.Faults.{refusal-number, layer-name}
-use Rattle.texts.specs.Written.{line}
+use Rattle.reader.specs.Readings.{line}
 use Rattle.printing.specs.FaultLine.{fault-line}
 use Rattle.printing.proofs.Joined.{holds-first, holds-more, holds-all}
 use Rattle.printing.proofs.answers.fault_text.Needs as need

@@ -4,9 +4,10 @@ use lib.Chars.{codes}
 use Rattle.std.specs.Of.Vec.{vec-items}
 use Rattle.std.specs.Written.{decimal}
 use lib.ListN.{length}
-use Rattle.texts.specs.Models.{terms-model}
-use Rattle.texts.specs.Words.{marks-key, lots-key}
-use Rattle.texts.specs.Written.{line, terms-text}
+use Rattle.terms.specs.Models.{terms-model}
+use Rattle.reader.specs.Words.{marks-key, lots-key}
+use Rattle.reader.specs.Readings.{line}
+use Rattle.terms.specs.Written.{terms-text}
 use Rattle.printing.proofs.Joined.{holds-first, holds-more, holds-all}
 use Rattle.printing.proofs.answers.summary_text.Needs as need
 

@@ -3,9 +3,10 @@ use mathlib.Core.List.{[], _++_}
 use lib.Chars.{codes}
 use Rattle.std.specs.Of.Vec.{vec-items}
 use Rattle.std.specs.Written.{decimal}
-use Rattle.texts.specs.Models.{ladder-model}
-use Rattle.texts.specs.Words.{offices-key, grain-key, ladder-key, post-key}
-use Rattle.texts.specs.Written.{line, ladder-text, post-text}
+use Rattle.terms.specs.Models.{ladder-model}
+use Rattle.reader.specs.Words.{offices-key, grain-key, ladder-key, post-key}
+use Rattle.reader.specs.Readings.{line}
+use Rattle.terms.specs.Written.{ladder-text, post-text}
 use Rattle.printing.proofs.Joined.{holds-first, holds-more, holds-all}
 use Rattle.printing.proofs.answers.terms_text.Needs as need
 

@@ -3,7 +3,7 @@ use mathlib.Core.List.{_++_}
 use native.Mathlib.Omega.{arith}
 use Rattle.std.specs.Of.Vec.{vec-items}
 use Rattle.std.proofs.shelf.Lists.{take-all}
-use Rattle.texts.specs.Written.{commas}
+use Rattle.reader.specs.Lists.{commas}
 use Rattle.printing.proofs.Joined.{put-first, put-more}
 use Rattle.printing.proofs.writer.push_numbers.Needs as need
 use Rattle.printing.proofs.writer.push_numbers.Needs.{then-i-gt0·in-Continue-extend-from-slice, else-i-gt0}
