@@ -1,0 +1,3 @@
+pub mod Divisors
+pub mod Halves
+pub mod Products
