@@ -46,6 +46,13 @@ fn run(rt: &LibcRuntime) -> Result<(), AnyError> {
     Ok(())
 }
 
+// A failure goes to standard error, and ends the program with status 1.
 fn main(rt: LibcRuntime) -> Result<(), AnyError> {
-    rt.report(run(&rt))
+    match run(&rt) {
+        Ok(()) => Ok(()),
+        Err(error) => {
+            let _ = eprintln!(rt, "zimuralve: {error}");
+            Err(error)
+        }
+    }
 }
