@@ -1,0 +1,4 @@
+pub mod Outs
+pub mod Lanes
+pub mod Tables
+pub mod Makers

@@ -1,0 +1,3 @@
+pub mod InUse
+pub mod Outcomes
+pub mod Bytes

@@ -1,0 +1,5 @@
+pub mod Wires
+pub mod Marks
+pub mod Rows
+pub mod Makers
+pub mod Kinds
