@@ -3,7 +3,7 @@ ghost use Rattle.std.specs.Prelude.{◌≡◌, ℕ, ◌+◌, ◌*◌, ◌^◌, �
 ghost use Rattle.post.specs.Lanes.{joined};
 ghost use Rattle.post.specs.Tables.{slots_shown};
 ghost use Rattle.wire.specs.Wires.{wire_lane, no_frames, Others, Taken, PlacedBy};
-ghost use Rattle.bit_post.specs.Frames.{data_frame, acknowledgement as ack-frame, bit_of, byte_of};
+ghost use Rattle.bit_post.specs.Frames.{data_frame, acknowledgement as ack_frame, bit_of, byte_of};
 ghost use Rattle.bit_post.specs.Sending.{among, delivered, MaySend, Tried, FarAfter, Sent};
 
 use post::LaneTable;
@@ -32,7 +32,7 @@ fn data_frame(bit: bool, byte: u8) -> u16
 
 // The acknowledgement of a bit.
 fn acknowledgement(bit: bool) -> u16
-    ensures { result ≡ ack-frame bit }
+    ensures { result ≡ ack_frame bit }
 {
     if bit { 768 } else { 512 }
 }
@@ -103,7 +103,7 @@ fn answer<W: Wire>(
     requires room { (wire_lane (W.Wire.lanes wire.old) back).places ≤ 14 }
     requires ready { expected.old ≡ bit_of frame → MaySend (slots_shown table.old) lane }
     ensures same { W.Wire.offices wire.new ≡ W.Wire.offices wire.old }
-    ensures placed { PlacedBy (W.Wire.lanes wire.old) (W.Wire.troubles wire.old) back (ack-frame (bit_of frame)) (W.Wire.lanes wire.new) (W.Wire.troubles wire.new) (W.Wire.ran wire.old wire.new) }
+    ensures placed { PlacedBy (W.Wire.lanes wire.old) (W.Wire.troubles wire.old) back (ack_frame (bit_of frame)) (W.Wire.lanes wire.new) (W.Wire.troubles wire.new) (W.Wire.ran wire.old wire.new) }
     ensures flips { expected.new ≡ not (bit_of frame) }
     ensures delivers { slots_shown table.new ≡ delivered (bit_of frame) expected.old (slots_shown table.old) lane (byte_of frame) }
 {

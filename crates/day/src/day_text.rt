@@ -1,9 +1,9 @@
 // The text of a day.
 ghost use Rattle.std.specs.Prelude.{◌≡◌, ℕ, ◌≤◌, length, vec_items};
 ghost use Rattle.reader.specs.Readings.{line_of};
-ghost use Rattle.reader.specs.Readers.{from as from-here, SameText};
+ghost use Rattle.reader.specs.Readers.{from as from_here, SameText};
 ghost use Rattle.reader.specs.Answers.{Gives, GivesAt, MarksAt};
-ghost use Rattle.day.specs.DayText.{marks as marks-text, some_lots, lots as lots-text, day as day-reading, read_day};
+ghost use Rattle.day.specs.DayText.{marks as marks_text, some_lots, lots as lots_text, day as day_reading, read_day};
 ghost use Rattle.day.specs.Models.{day_model};
 ghost use Rattle.reader.specs.Words.{marks_key, lots_key};
 
@@ -14,7 +14,7 @@ use std::alloc::Global;
 
 // The marks, as a part of the text.
 fn marks<'a>(reader: &mut Reader<'a>) -> Result<&'a [u8], Fault>
-    ensures value { MarksAt (from-here marks-text reader.old) result reader.new.place }
+    ensures value { MarksAt (from_here marks_text reader.old) result reader.new.place }
     ensures same { SameText reader.old reader.new }
 {
     let marks = reader.take_run(ByteKind::Mark);
@@ -25,7 +25,7 @@ fn marks<'a>(reader: &mut Reader<'a>) -> Result<&'a [u8], Fault>
 }
 
 fn marks_line<'a>(reader: &mut Reader<'a>) -> Result<&'a [u8], Fault>
-    ensures value { MarksAt (from-here (line_of marks_key marks-text) reader.old) result reader.new.place }
+    ensures value { MarksAt (from_here (line_of marks_key marks_text) reader.old) result reader.new.place }
     ensures same { SameText reader.old reader.new }
 {
     reader.expect(words::MARKS_KEY)?;
@@ -36,7 +36,7 @@ fn marks_line<'a>(reader: &mut Reader<'a>) -> Result<&'a [u8], Fault>
 
 // One office or more with commas between.
 fn some_lots(heap: Global, reader: &mut Reader<'_>, offices: u32) -> Result<Vec<u32>, ReadError>
-    ensures value { GivesAt vec_items (from-here (some_lots offices) reader.old) result reader.new.place }
+    ensures value { GivesAt vec_items (from_here (some_lots offices) reader.old) result reader.new.place }
     ensures same { SameText reader.old reader.new }
 {
     let mut lots = Vec::new(heap);
@@ -51,7 +51,7 @@ fn some_lots(heap: Global, reader: &mut Reader<'_>, offices: u32) -> Result<Vec<
 
 // The lots: none where the line ends at once.
 fn lots(heap: Global, reader: &mut Reader<'_>, offices: u32) -> Result<Vec<u32>, ReadError>
-    ensures value { GivesAt vec_items (from-here (lots-text offices) reader.old) result reader.new.place }
+    ensures value { GivesAt vec_items (from_here (lots_text offices) reader.old) result reader.new.place }
     ensures same { SameText reader.old reader.new }
 {
     if reader.at_line_end() {
@@ -61,7 +61,7 @@ fn lots(heap: Global, reader: &mut Reader<'_>, offices: u32) -> Result<Vec<u32>,
 }
 
 fn lots_line(heap: Global, reader: &mut Reader<'_>, offices: u32) -> Result<Vec<u32>, ReadError>
-    ensures value { GivesAt vec_items (from-here (line_of lots_key (lots-text offices)) reader.old) result reader.new.place }
+    ensures value { GivesAt vec_items (from_here (line_of lots_key (lots_text offices)) reader.old) result reader.new.place }
     ensures same { SameText reader.old reader.new }
 {
     reader.expect(words::LOTS_KEY)?;
@@ -72,7 +72,7 @@ fn lots_line(heap: Global, reader: &mut Reader<'_>, offices: u32) -> Result<Vec<
 
 // The two lines of a day, with nothing after them.
 fn day<'a>(heap: Global, reader: &mut Reader<'a>, offices: u32) -> Result<Day<'a>, ReadError>
-    ensures value { GivesAt day_model (from-here (day-reading offices) reader.old) result reader.new.place }
+    ensures value { GivesAt day_model (from_here (day_reading offices) reader.old) result reader.new.place }
 {
     let marks = marks_line(reader)?;
     let lots = lots_line(heap, reader, offices)?;

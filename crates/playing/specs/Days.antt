@@ -3,7 +3,7 @@ use Rattle.std.specs.Prelude.{◌≡◌, ℕ, ◌+◌, ◌<◌, true, false, Lis
 use Rattle.post.specs.Lanes.{Lane}
 use Rattle.rules.specs.Rules.{Setting, State, opened}
 use Rattle.rules.specs.Runs.{Answer, Runs, Books, accepted_in_all}
-use Rattle.window.specs.Opening.{opened as opened-books}
+use Rattle.window.specs.Opening.{opened as opened_books}
 use Rattle.window.specs.Windows.{setting_of, books_of, Reached, LawfulBooks}
 use Rattle.playing.specs.declared.day.Played.{Played}
 use Rattle.playing.specs.Tallies.{late_in_all, no_tally}
@@ -41,5 +41,5 @@ pub record DayPlayed {P : Type 0} (lanes : P → List Lane) (lots : List ℕ) (p
 -- On a post that was used before, no lot is counted, and nothing is sent.
 pub record NoDay {P : Type 0} (post : P) (p : Played P) : Type 0 where
   pub tally : p.tally ≡ no_tally
-  pub books : p.window.checked.books ≡ opened-books p.window.checked.books.setting
+  pub books : p.window.checked.books ≡ opened_books p.window.checked.books.setting
   pub untouched : p.window.post ≡ post

@@ -8,7 +8,7 @@ use Rattle.std.proofs.lemmas.Bool.{cond_both, lt-leb, leb-false}
 use Rattle.std.proofs.lemmas.Bool.Decides.{nat_tests}
 use Rattle.fault.specs.declared.Fault.{Fault}
 use Rattle.queue.specs.Queues.{first, rest}
-use Rattle.post.specs.Lanes.{Lane, PostLaw, no_lane, lane, room_answer, send_answer, with_byte, joined, sent_answer, sends, send, take as take-lane, taken, all_sent, Unused}
+use Rattle.post.specs.Lanes.{Lane, PostLaw, no_lane, lane, room_answer, send_answer, with_byte, joined, sent_answer, sends, send, take as take_lane, taken, all_sent, Unused}
 use Rattle.post.specs.Outs.{Out, out}
 
 -- a lane that takes one byte more
@@ -56,7 +56,7 @@ all_sent_taken : (w : List ℕ) (i : ℕ) (ls : List Lane) → i < length ls →
 all_sent_taken [] i ls here = refl
 all_sent_taken (b ∷ bs) i ls here = all_sent_set ls i (record { waiting = bs; sent = (lane ls i).sent }) here refl
 
-pub all_sent_take : (i : ℕ) (ls : List Lane) → all_sent (take-lane i ls).state ≡ all_sent ls
+pub all_sent_take : (i : ℕ) (ls : List Lane) → all_sent (take_lane i ls).state ≡ all_sent ls
 all_sent_take i ls =
     cond_both (nat_le (length ls) i) _ _ (λ (o : Out (List Lane) (Option ℕ)). all_sent o.state ≡ all_sent ls)
     (λ _. refl)

@@ -26,7 +26,7 @@ impl MessageCount {
 
 // How many bytes were sent on a lane, and 0 where there is no such lane.
 pub fn sent_on<P: Post>(post: &P, lane: u32) -> u32
-    ensures { result ≡ (lane_of (lanes post.now) lane).sent }
+    ensures { result ≡ (lane_of (P.lanes post.now) lane).sent }
 {
     match post.sent_count(lane) {
         Ok(count) => count,
@@ -36,7 +36,7 @@ pub fn sent_on<P: Post>(post: &P, lane: u32) -> u32
 
 // The sum of the sent numbers of all lanes.
 pub fn message_count<P: Post>(post: &P) -> MessageCount
-    ensures { result.number ≡ all_sent (lanes post.now) }
+    ensures { result.number ≡ all_sent (P.lanes post.now) }
 {
     let mut number = 0;
     for lane in 0..2 * post.office_count() {

@@ -7,7 +7,7 @@ use crate::messages::sent_on;
 
 // Whether nothing was ever sent on any lane.
 pub fn is_unused<P: Post>(post: &P) -> bool
-    ensures { Decides result (Unused (lanes post.now)) }
+    ensures { Decides result (Unused (P.lanes post.now)) }
 {
     for lane in 0..2 * post.office_count() {
         if sent_on(post, lane) > 0 {

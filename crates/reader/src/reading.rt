@@ -2,10 +2,10 @@
 ghost use Rattle.std.specs.Prelude.{◌≡◌, ℕ, ◌+◌, ◌<◌, ◌≤◌, true, length, drop, if◌then◌else◌, ◌==◌, nat_lt};
 ghost use Rattle.std.specs.List.{prefix_len};
 ghost use Rattle.std.specs.Str.{all_ascii_digits};
-ghost use Rattle.fault.specs.Faults.{fault as fault-at};
+ghost use Rattle.fault.specs.Faults.{fault as fault_at};
 ghost use Rattle.fault.specs.declared.Refusal.TheVariants.{OutOfRange};
 ghost use Rattle.reader.specs.Bytes.{of_kind, run, line_end};
-ghost use Rattle.reader.specs.Readings.{begins_at, expect as expected, end_line, end_text, digits_value, number_here, number_in as numbers-in, line_of};
+ghost use Rattle.reader.specs.Readings.{begins_at, expect as expected, end_line, end_text, digits_value, number_here, number_in as numbers_in, line_of};
 ghost use Rattle.reader.specs.Readers.{text_of, from, Answers, SameText};
 
 use crate::{ByteKind, Reader, line_end_length};
@@ -64,7 +64,7 @@ impl<'a> Reader<'a> {
 
     // The fault of what stands here.
     pub fn fault(&self, refusal: Refusal) -> Fault
-        ensures value { result ≡ fault-at self.now.layer refusal self.now.place }
+        ensures value { result ≡ fault_at self.now.layer refusal self.now.place }
     {
         Fault {
             layer: self.layer,
@@ -177,7 +177,7 @@ impl<'a> Reader<'a> {
 
     // Moves past a number from `low` to `high`; another number is refused with `refusal`.
     pub fn number_in(&mut self, low: u32, high: u32, refusal: Refusal) -> Result<u32, Fault>
-        ensures value { Answers (from (numbers-in low high refusal) self.old) result self.new.place }
+        ensures value { Answers (from (numbers_in low high refusal) self.old) result self.new.place }
         ensures same { SameText self.old self.new }
     {
         let number = self.number_here()?;
@@ -190,7 +190,7 @@ impl<'a> Reader<'a> {
 
     // Moves past a line: a key, a number from `low` to `high` and a line end.
     pub fn number_line(&mut self, key: &[u8], low: u32, high: u32) -> Result<u32, Fault>
-        ensures value { Answers (from (line_of key.now (numbers-in low high OutOfRange)) self.old) result self.new.place }
+        ensures value { Answers (from (line_of key.now (numbers_in low high OutOfRange)) self.old) result self.new.place }
         ensures same { SameText self.old self.new }
     {
         self.expect(key)?;

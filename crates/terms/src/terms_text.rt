@@ -2,10 +2,10 @@
 ghost use Rattle.std.specs.Prelude.{◌≡◌, ℕ, ◌+◌, ◌*◌, ◌<◌, ◌≤◌, [], length, IfOk, vec_items};
 ghost use Rattle.fault.specs.declared.Refusal.TheVariants.{OutOfRange};
 ghost use Rattle.reader.specs.Readings.{number_if, line_of};
-ghost use Rattle.reader.specs.Readers.{from as from-here, Answers, SameText};
+ghost use Rattle.reader.specs.Readers.{from as from_here, Answers, SameText};
 ghost use Rattle.reader.specs.Answers.{Gives, GivesAt};
 ghost use Rattle.terms.specs.Models.{ladder_model, terms_model};
-ghost use Rattle.terms.specs.TermsText.{steps_allowed, divisor_allowed, divisors as divisors-text, ladder as ladder_text, post as post_text, terms as terms-reading, read_terms};
+ghost use Rattle.terms.specs.TermsText.{steps_allowed, divisor_allowed, divisors as divisors_text, ladder as ladder_text, post as post_text, terms as terms_reading, read_terms};
 ghost use Rattle.reader.specs.Words.{ladder_key, post_key};
 
 use crate::{LadderChoice, PostChoice, Terms};
@@ -27,7 +27,7 @@ const MOST_TOP: u32 = 16777216;
 
 // The number of steps of a halving ladder over `grain`.
 fn steps(reader: &mut Reader<'_>, grain: u32) -> Result<u32, Fault>
-    ensures value { Answers (from-here (number_if (steps_allowed grain) OutOfRange) reader.old) result reader.new.place }
+    ensures value { Answers (from_here (number_if (steps_allowed grain) OutOfRange) reader.old) result reader.new.place }
     ensures same { SameText reader.old reader.new }
 {
     let steps = reader.number_here()?;
@@ -40,7 +40,7 @@ fn steps(reader: &mut Reader<'_>, grain: u32) -> Result<u32, Fault>
 
 // The next divisor, where the grain and the divisors before it make `whole`.
 fn divisor(reader: &mut Reader<'_>, whole: u32) -> Result<u32, Fault>
-    ensures value { Answers (from-here (number_if (divisor_allowed whole) OutOfRange) reader.old) result reader.new.place }
+    ensures value { Answers (from_here (number_if (divisor_allowed whole) OutOfRange) reader.old) result reader.new.place }
     ensures same { SameText reader.old reader.new }
     ensures bound { IfOk result (λ d. whole * d ≤ 16777216) }
 {
@@ -57,7 +57,7 @@ fn divisor(reader: &mut Reader<'_>, whole: u32) -> Result<u32, Fault>
 
 // One to sixteen divisors with commas between.
 fn divisors(heap: Global, reader: &mut Reader<'_>, grain: u32) -> Result<Vec<u32>, ReadError>
-    ensures value { GivesAt vec_items (from-here (divisors-text grain) reader.old) result reader.new.place }
+    ensures value { GivesAt vec_items (from_here (divisors_text grain) reader.old) result reader.new.place }
     ensures same { SameText reader.old reader.new }
 {
     let mut divisors = Vec::new(heap);
@@ -78,7 +78,7 @@ fn divisors(heap: Global, reader: &mut Reader<'_>, grain: u32) -> Result<Vec<u32
 
 // The ladder: one of its words, and its numbers.
 fn ladder(heap: Global, reader: &mut Reader<'_>, grain: u32) -> Result<LadderChoice, ReadError>
-    ensures value { GivesAt ladder_model (from-here (ladder_text grain) reader.old) result reader.new.place }
+    ensures value { GivesAt ladder_model (from_here (ladder_text grain) reader.old) result reader.new.place }
     ensures same { SameText reader.old reader.new }
 {
     if reader.skip(words::HALVING_WORD) {
@@ -92,7 +92,7 @@ fn ladder(heap: Global, reader: &mut Reader<'_>, grain: u32) -> Result<LadderCho
 
 // The post: one of its words.
 fn post(reader: &mut Reader<'_>) -> Result<PostChoice, Fault>
-    ensures value { Answers (from-here post_text reader.old) result reader.new.place }
+    ensures value { Answers (from_here post_text reader.old) result reader.new.place }
     ensures same { SameText reader.old reader.new }
 {
     if reader.skip(words::DIRECT_WORD) {
@@ -105,7 +105,7 @@ fn post(reader: &mut Reader<'_>) -> Result<PostChoice, Fault>
 }
 
 fn ladder_line(heap: Global, reader: &mut Reader<'_>, grain: u32) -> Result<LadderChoice, ReadError>
-    ensures value { GivesAt ladder_model (from-here (line_of ladder_key (ladder_text grain)) reader.old) result reader.new.place }
+    ensures value { GivesAt ladder_model (from_here (line_of ladder_key (ladder_text grain)) reader.old) result reader.new.place }
     ensures same { SameText reader.old reader.new }
 {
     reader.expect(words::LADDER_KEY)?;
@@ -115,7 +115,7 @@ fn ladder_line(heap: Global, reader: &mut Reader<'_>, grain: u32) -> Result<Ladd
 }
 
 fn post_line(reader: &mut Reader<'_>) -> Result<PostChoice, Fault>
-    ensures value { Answers (from-here (line_of post_key post_text) reader.old) result reader.new.place }
+    ensures value { Answers (from_here (line_of post_key post_text) reader.old) result reader.new.place }
     ensures same { SameText reader.old reader.new }
 {
     reader.expect(words::POST_KEY)?;
@@ -126,7 +126,7 @@ fn post_line(reader: &mut Reader<'_>) -> Result<PostChoice, Fault>
 
 // The four lines of the terms, with nothing after them.
 fn terms(heap: Global, reader: &mut Reader<'_>) -> Result<Terms, ReadError>
-    ensures value { GivesAt terms_model (from-here terms-reading reader.old) result reader.new.place }
+    ensures value { GivesAt terms_model (from_here terms_reading reader.old) result reader.new.place }
 {
     let offices = reader.number_line(words::OFFICES_KEY, 1, MOST_OFFICES)?;
     let grain = reader.number_line(words::GRAIN_KEY, 1, MOST_GRAIN)?;

@@ -1,7 +1,7 @@
 // Both texts, their lengths first.
 ghost use Rattle.std.specs.Prelude.{◌≡◌};
 ghost use Rattle.reader.specs.Answers.{Gives};
-ghost use Rattle.texts.specs.Both.{short as short-text, read_both, both_model, ReadsExactly};
+ghost use Rattle.texts.specs.Both.{short as short_text, read_both, both_model, ReadsExactly};
 
 use day::{Day, read_day};
 use fault::{Fault, Layer, Refusal};
@@ -13,7 +13,7 @@ use terms::{Terms, read_terms};
 pub const MOST_BYTES: usize = 65535;
 
 fn short(layer: Layer, text: &[u8]) -> Result<(), Fault>
-    ensures { result ≡ short-text layer text.now }
+    ensures { result ≡ short_text layer text.now }
 {
     if text.len() > MOST_BYTES {
         return Err(Fault {

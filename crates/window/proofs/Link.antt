@@ -7,7 +7,7 @@ use Rattle.fault.specs.Faults.{fault}
 use Rattle.fault.specs.declared.Layer.TheVariants.{Window as In-window}
 use Rattle.fault.specs.declared.Refusal.TheVariants.{NoSuchOfficeOrLane, WindowClosed}
 use Rattle.post.specs.Lanes.{Lane, lane}
-use Rattle.rules.specs.Rules.{Setting, divisor, State as Rules-state, state, coordinator_at, Coordinator as Rules-coordinator, Account, Office as Rules-office, no_office as no-rules-office, no_account, answer, quota as rules-quota, counted as rules-counted, opened as rules-opened}
+use Rattle.rules.specs.Rules.{Setting, divisor, State as Rules-state, state, coordinator_at, Coordinator as Rules-coordinator, Account, Office as Rules-office, no_office as no_rules_office, no_account, answer, quota as rules_quota, counted as rules_counted, opened as rules_opened}
 use Rattle.rules.specs.Runs.{Answer}
 use Rattle.rules.proofs.Machine.{Sound, ended, lot, two_turns, counts as Counts-of}
 use Rattle.rules.proofs.Lot.{Inv, Good}
@@ -137,7 +137,7 @@ module _ (l : Setting) (ok : Sound l) (j sg m : ℕ) (ds : List Account) (os : L
   b = s.books
 
   abbrev next : Rules-state
-  next = two_turns l (rules-counted l (state (coordinator_at j sg true) ds os) m)
+  next = two_turns l (rules_counted l (state (coordinator_at j sg true) ds os) m)
 
   table : m < length b.table
   table = omega (arith, even.tall, b.setting.few, setting.offices)
@@ -151,7 +151,7 @@ module _ (l : Setting) (ok : Sound l) (j sg m : ℕ) (ds : List Account) (os : L
   slack_j : slack b.setting b.coordinator.step ≡ l.slack j
   slack_j = ap (slack b.setting) sh.step ∙ setting.slacks j i.high
 
-  quota_is : quota b.setting b.coordinator.step ≡ rules-quota l j
+  quota_is : quota b.setting b.coordinator.step ≡ rules_quota l j
   quota_is = ap (quota b.setting) sh.step ∙ ap (λ d. b.setting.offices * (d - 1)) (sym (setting.divisors j i.low i.high)) ∙ ap (λ k. k * (divisor l j - 1)) setting.offices
 
   due_slack : slack b.setting (office b m).step ≡ l.slack j
@@ -160,8 +160,8 @@ module _ (l : Setting) (ok : Sound l) (j sg m : ℕ) (ds : List Account) (os : L
   counts_shows : (v : State) → due m b ≡ false → v ≡ at (counted m b) s.lanes → Shows l.offices next v
   counts_shows v no_due is =
       let ne = eqb-false ((office b m).remainder + 1) (slack b.setting (office b m).step) no_due in
-      let small : (get_or os m no-rules-office).remainder < l.slack j = remainder_less l j m i.fit (omega (arith, i.size)) in
-      let not_full : (get_or os m no-rules-office).remainder + 1 ≡ l.slack j → ⊥ = λ e. ne (omega (arith, sh.remainders m within, due_slack)) in
+      let small : (get_or os m no_rules_office).remainder < l.slack j = remainder_less l j m i.fit (omega (arith, i.size)) in
+      let not_full : (get_or os m no_rules_office).remainder + 1 ≡ l.slack j → ⊥ = λ e. ne (omega (arith, sh.remainders m within, due_slack)) in
       subst (Shows l.offices next) (sym is)
       (shows l.offices next _ _ _ _ _ (kept_rows l ok j sg m ds os ns i within (omega arith)) (at (counted m b) s.lanes) sh.step sh.signals sh.closed
       (λ n less. counted_credit b m table n ∙ sh.credits n less)
@@ -175,19 +175,19 @@ module _ (l : Setting) (ok : Sound l) (j sg m : ℕ) (ds : List Account) (os : L
     abbrev s₁ : State
     s₁ = at b₁ s.lanes
 
-    full_slack : l.slack j ≤ (get_or os m no-rules-office).remainder + 1
+    full_slack : l.slack j ≤ (get_or os m no_rules_office).remainder + 1
     full_slack = omega (arith, eqb-true ((office b m).remainder + 1) (slack b.setting (office b m).step) is-due, sh.remainders m within, due_slack)
 
     credit₁ : (h : Coordinator) (n : ℕ) → n < l.offices → (office (in_coordinator b₁ m h) n).credit ≡ (get_or ds n no_account).credit + one n m * l.slack j
     credit₁ h n less = coordinated_credit b₁ m table₁ h n ∙ ap (λ x. x + one n m * slack b.setting b.coordinator.step) (counted_credit b m table n ∙ sh.credits n less) ∙ ap (λ x. (get_or ds n no_account).credit + one n m * x) slack_j
 
-    remainder₁ : (h : Coordinator) (n : ℕ) → n < l.offices → (office (in_coordinator b₁ m h) n).remainder ≡ zeroed n m (get_or os n no-rules-office).remainder
+    remainder₁ : (h : Coordinator) (n : ℕ) → n < l.offices → (office (in_coordinator b₁ m h) n).remainder ≡ zeroed n m (get_or os n no_rules_office).remainder
     remainder₁ h n less = coordinated_remainder b₁ m table₁ h n ∙ counted_zero b m table is-due n ∙ ap (zeroed n m) (sh.remainders n less)
 
     up₁ : (q : ℕ → ℕ) (d : ℕ) (v : State) → Carried m q d s₁ v → (n : ℕ) → n < l.offices → (lane v.lanes (2 * n)).sent ≡ (get_or ds n no_account).up.sent + one n m + q n
     up₁ q d v c n less = c.up n (omega (arith, setting.offices)) ∙ ap (λ x. x + one n m + q n) (sh.ups n less)
 
-    down₁ : (q : ℕ → ℕ) (d : ℕ) (v : State) → Carried m q d s₁ v → (n : ℕ) → n < l.offices → (lane v.lanes (2 * n + 1)).sent ≡ (get_or os n no-rules-office).down.sent + d
+    down₁ : (q : ℕ → ℕ) (d : ℕ) (v : State) → Carried m q d s₁ v → (n : ℕ) → n < l.offices → (lane v.lanes (2 * n + 1)).sent ≡ (get_or os n no_rules_office).down.sent + d
     down₁ q d v c n less = c.down n (omega (arith, setting.offices)) ∙ ap (λ x. x + d) (sh.downs n less)
 
     after_shows : (v : State) → After m s₁ v → (Shows l.offices next v) × (v.books.setting ≡ b.setting)
@@ -202,7 +202,7 @@ module _ (l : Setting) (ok : Sound l) (j sg m : ℕ) (ds : List Account) (os : L
       ap (λ (b : Books). b.setting) is,
     )
       where
-        not_equal : sg + 1 ≡ rules-quota l j → ⊥
+        not_equal : sg + 1 ≡ rules_quota l j → ⊥
         not_equal e = not_full (omega (arith, sh.signals, quota_is))
     after_shows v (ends full-now last is c) = (
       shows l.offices next _ _ _ _ _ (last_rows l ok j sg m ds os ns i within full_slack (omega (arith, full-now, sh.signals, quota_is)) (omega (arith, last, setting.steps, sh.step))) v
@@ -216,17 +216,17 @@ module _ (l : Setting) (ok : Sound l) (j sg m : ℕ) (ds : List Account) (os : L
     after_shows v (moves_on full-now more mo c) = (
       shows l.offices next _ _ _ _ _ (next_rows l ok j sg m ds os ns i within full_slack (omega (arith, full-now, sh.signals, quota_is)) (omega (arith, more, setting.steps, sh.step))) v
           (ap (λ (h : Coordinator). h.step) mo.coordinator ∙ ap (λ x. x + 1) sh.step)
-          (ap (λ (h : Coordinator). h.signals) mo.coordinator ∙ sum_below q b.setting.offices ∙ ap (λ k. below k q) setting.offices ∙ below_same l.offices q (λ n. zeroed n m (get_or os n no-rules-office).remainder / l.slack (j + 1)) q_is)
+          (ap (λ (h : Coordinator). h.signals) mo.coordinator ∙ sum_below q b.setting.offices ∙ ap (λ k. below k q) setting.offices ∙ below_same l.offices q (λ n. zeroed n m (get_or os n no_rules_office).remainder / l.slack (j + 1)) q_is)
           (ap (λ (h : Coordinator). h.closed) mo.coordinator)
           (λ n less.
           ap (λ (o : OfficeRecord). o.credit) (mo.records n (omega (arith, setting.offices)))
           ∙ ap (λ x. x + q n * slack b.setting (b.coordinator.step + 1)) (credit₁ (record { step = b.coordinator.step + 1; signals = 0; closed = false }) n less)
           ∙ ap (λ x. (get_or ds n no_account).credit + one n m * l.slack j + x * slack b.setting (b.coordinator.step + 1)) (q_is n less)
-          ∙ ap (λ x. (get_or ds n no_account).credit + one n m * l.slack j + zeroed n m (get_or os n no-rules-office).remainder / l.slack (j + 1) * x) slack_next)
+          ∙ ap (λ x. (get_or ds n no_account).credit + one n m * l.slack j + zeroed n m (get_or os n no_rules_office).remainder / l.slack (j + 1) * x) slack_next)
           (λ n less.
           ap (λ (o : OfficeRecord). o.remainder) (mo.records n (omega (arith, setting.offices)))
           ∙ ap (λ x. x % slack b.setting ((office (started m b₁) n).step + 1)) (remainder₁ (record { step = b.coordinator.step + 1; signals = 0; closed = false }) n less)
-          ∙ ap (λ x. zeroed n m (get_or os n no-rules-office).remainder % x) (own_next n less))
+          ∙ ap (λ x. zeroed n m (get_or os n no_rules_office).remainder % x) (own_next n less))
           (λ n less. up₁ q 1 v c n less ∙ ap (λ x. (get_or ds n no_account).up.sent + one n m + x) (q_is n less))
           (down₁ q 1 v c),
       mo.setting,
@@ -244,8 +244,8 @@ module _ (l : Setting) (ok : Sound l) (j sg m : ℕ) (ds : List Account) (os : L
         own_next : (n : ℕ) → n < l.offices → slack b.setting ((office (started m b₁) n).step + 1) ≡ l.slack (j + 1)
         own_next n less = ap (λ x. slack b.setting (x + 1)) (coordinated_step b₁ m table₁ (record { step = b.coordinator.step + 1; signals = 0; closed = false }) n ∙ counted_step b m table n ∙ level n less) ∙ setting.slacks (j + 1) (omega arith)
 
-        q_is : (n : ℕ) → n < l.offices → q n ≡ zeroed n m (get_or os n no-rules-office).remainder / l.slack (j + 1)
-        q_is n less = ap (λ x. x / slack b.setting ((office (started m b₁) n).step + 1)) (remainder₁ (record { step = b.coordinator.step + 1; signals = 0; closed = false }) n less) ∙ ap (λ x. zeroed n m (get_or os n no-rules-office).remainder / x) (own_next n less)
+        q_is : (n : ℕ) → n < l.offices → q n ≡ zeroed n m (get_or os n no_rules_office).remainder / l.slack (j + 1)
+        q_is n less = ap (λ x. x / slack b.setting ((office (started m b₁) n).step + 1)) (remainder₁ (record { step = b.coordinator.step + 1; signals = 0; closed = false }) n less) ∙ ap (λ x. zeroed n m (get_or os n no_rules_office).remainder / x) (own_next n less)
 
   pub accepted_shows : (v : State) → Accepted m s v → (Shows l.offices next v) × (v.books.setting ≡ b.setting)
   accepted_shows v (counts no_due is) = (counts_shows v no_due is, ap (λ (s : State). s.books.setting) is)
@@ -254,11 +254,11 @@ module _ (l : Setting) (ok : Sound l) (j sg m : ℕ) (ds : List Account) (os : L
 -- a rules state that is open
 module _ (l : Setting) (ok : Sound l) (r : Rules-state) (ns : List ℕ) (good-r : Good l r ns) (m : ℕ) (within : m < l.offices) (going : r.coordinator.is_open ≡ true)
     (s : State) (setting : Same-terms l s.books.setting) (even : Even s) (sh : Shows l.offices r s) where
-  open_shows : (v : State) → Accepted m s v → (Shows l.offices (two_turns l (rules-counted l r m)) v) × (v.books.setting ≡ s.books.setting)
+  open_shows : (v : State) → Accepted m s v → (Shows l.offices (two_turns l (rules_counted l r m)) v) × (v.books.setting ≡ s.books.setting)
   open_shows v acc =
       let is : r ≡ state (coordinator_at r.coordinator.step r.coordinator.signals true) r.accounts r.offices = ap (λ b. state (coordinator_at r.coordinator.step r.coordinator.signals b) r.accounts r.offices) going in
       let z = accepted_shows l ok r.coordinator.step r.coordinator.signals m r.accounts r.offices ns (subst (λ b. Inv l r.coordinator.step r.coordinator.signals b r.accounts r.offices ns) going good-r) within s setting even (subst (λ r. Shows l.offices r s) is sh) v acc in
-      (subst (λ r. Shows l.offices (two_turns l (rules-counted l r m)) v) (sym is) z.0, z.1)
+      (subst (λ r. Shows l.offices (two_turns l (rules_counted l r m)) v) (sym is) z.0, z.1)
 
 not_true : (x : Bool) → false ≡ not x → x ≡ true
 not_true true e = refl
@@ -280,7 +280,7 @@ module _ (l : Setting) (h : List ℕ) (used : Bool) (s : State) (re : Held l h u
   refused_next f is =
       let stays : lot l (ended l h) n ≡ ended l h = cond-false _ _ _ (ap is_ok is) in
       record {
-        reached = record { fresh = re.fresh; setting = re.setting; even = re.even; shows = subst (λ r. Shows l.offices r s) (sym (run_more l (rules-opened l) h n ∙ stays)) re.shows };
+        reached = record { fresh = re.fresh; setting = re.setting; even = re.even; shows = subst (λ r. Shows l.offices r s) (sym (run_more l (rules_opened l) h n ∙ stays)) re.shows };
         answer = sym is;
       }
 
@@ -296,13 +296,13 @@ module _ (l : Setting) (h : List ℕ) (used : Bool) (s : State) (re : Held l h u
   accepted_next good-n going v even_v acc =
       let is_open : (ended l h).coordinator.is_open ≡ true = not_true _ (sym going ∙ re.shows.closed) in
       let yes : answer l (ended l h) n ≡ Ok tt = cond-false _ _ _ (bad_is ∙ good-n) ∙ cond-true _ _ _ is_open in
-      let goes : lot l (ended l h) n ≡ two_turns l (rules-counted l (ended l h) (n - 1)) = cond-true _ _ _ (ap is_ok yes) in
+      let goes : lot l (ended l h) n ≡ two_turns l (rules_counted l (ended l h) (n - 1)) = cond-true _ _ _ (ap is_ok yes) in
       let parts = or_parts (eqb n 0) (ltb t.offices n) good-n in
       let not-0 : n ≡ 0 → ⊥ = eqb-false n 0 parts.0 in
       let most : n ≤ t.offices = ltb-false _ _ parts.1 in
       let ok = sound l t re.setting in
       let z = open_shows l ok (ended l h) (Counts-of l h) (good l ok h) (n - 1) (omega (arith, re.setting.offices)) is_open s re.setting re.even re.shows v acc in
       record {
-        reached = record { fresh = re.fresh; setting = subst (Same-terms l) (sym z.1) re.setting; even = even_v; shows = subst (λ r. Shows l.offices r v) (sym (run_more l (rules-opened l) h n ∙ goes)) z.0 };
+        reached = record { fresh = re.fresh; setting = subst (Same-terms l) (sym z.1) re.setting; even = even_v; shows = subst (λ r. Shows l.offices r v) (sym (run_more l (rules_opened l) h n ∙ goes)) z.0 };
         answer = sym yes;
       }

@@ -5,7 +5,7 @@ use Rattle.std.proofs.lemmas.Bool.{cond-true, cond-false, or_parts, eqb-false, l
 use Rattle.fault.specs.declared.Fault.{Fault}
 use Rattle.post.specs.Lanes.{Lane, lane, no_lane, send, sends, send_answer, joined, Unused}
 use Rattle.post.specs.Outs.{Out, out}
-use Rattle.rules.specs.Rules.{Setting, Account, account, Office, office as rules-office, no_office as no-rules-office, no_account}
+use Rattle.rules.specs.Rules.{Setting, Account, account, Office, office as rules_office, no_office as no_rules_office, no_account}
 use Rattle.rules.specs.Runs.{Answer}
 use Rattle.window.specs.declared.setting_table.SettingTable.{SettingTable}
 use Rattle.window.specs.declared.books.Books.{Books}
@@ -183,9 +183,9 @@ opened_held l t ls b used same is fresh unused even = record {
     signals = ap (λ (b : Books). b.coordinator.signals) is;
     closed = ap (λ (b : Books). b.coordinator.closed) is;
     credits = λ n less. ap (λ b. (office b n).credit) is ∙ ap (λ (o : OfficeRecord). o.credit) (get_or-replicate 64 n (record { step = 1; credit = 0; remainder = 0 }) no_office (few n less)) ∙ ap (λ (p : Account). p.credit) (sym (get_or-replicate l.offices n (account 0 no_lane) no_account less));
-    remainders = λ n less. ap (λ b. (office b n).remainder) is ∙ ap (λ (o : OfficeRecord). o.remainder) (get_or-replicate 64 n (record { step = 1; credit = 0; remainder = 0 }) no_office (few n less)) ∙ ap (λ (p : Office). p.remainder) (sym (get_or-replicate l.offices n (rules-office 0 1 no_lane) no-rules-office less));
+    remainders = λ n less. ap (λ b. (office b n).remainder) is ∙ ap (λ (o : OfficeRecord). o.remainder) (get_or-replicate 64 n (record { step = 1; credit = 0; remainder = 0 }) no_office (few n less)) ∙ ap (λ (p : Office). p.remainder) (sym (get_or-replicate l.offices n (rules_office 0 1 no_lane) no_rules_office less));
     ups = λ n less. unused (2 * n) (in_lanes n less (2 * n) (omega arith)) ∙ ap (λ (p : Account). p.up.sent) (sym (get_or-replicate l.offices n (account 0 no_lane) no_account less));
-    downs = λ n less. unused (2 * n + 1) (in_lanes n less (2 * n + 1) (omega arith)) ∙ ap (λ (p : Office). p.down.sent) (sym (get_or-replicate l.offices n (rules-office 0 1 no_lane) no-rules-office less));
+    downs = λ n less. unused (2 * n + 1) (in_lanes n less (2 * n + 1) (omega arith)) ∙ ap (λ (p : Office). p.down.sent) (sym (get_or-replicate l.offices n (rules_office 0 1 no_lane) no_rules_office less));
   };
 }
   where

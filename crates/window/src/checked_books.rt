@@ -1,6 +1,6 @@
 // The books with what always holds of them: how the coordinator and the offices change their records.
 ghost use Rattle.std.specs.Prelude.{◌≡◌, ℕ, ◌+◌, ◌-◌, ◌*◌, ◌/◌, ◌%◌, ◌^◌, ◌<◌, ◌≤◌, true, false, length, Some, None, ◌==◌};
-ghost use Rattle.window.specs.Parts.{message as message-of, phase, heard, heard_of, signalled, quota, slack, office, Paid, followed, followed_of, moved, due, counted};
+ghost use Rattle.window.specs.Parts.{message as message_of, phase, heard, heard_of, signalled, quota, slack, office, Paid, followed, followed_of, moved, due, counted};
 
 use crate::books::{Books, Coordinator, Message, OfficeRecord, Phase};
 
@@ -28,7 +28,7 @@ pub struct CheckedBooks {
 }
 
 pub fn read_message(byte: u8) -> Message
-    ensures { result ≡ message-of byte }
+    ensures { result ≡ message_of byte }
 {
     let step = u32::from(byte % 32);
     match byte / 32 {

@@ -1,12 +1,12 @@
 // The faults of the layer of windows.
 ghost use Rattle.std.specs.Prelude.{◌≡◌};
-ghost use Rattle.fault.specs.Faults.{fault as fault-of};
+ghost use Rattle.fault.specs.Faults.{fault as fault_of};
 ghost use Rattle.fault.specs.declared.Layer.TheVariants.{Window as InWindow};
 
 use fault::{Fault, Layer, Refusal};
 
 pub fn window_fault(refusal: Refusal, office: u32) -> Fault
-    ensures { result ≡ fault-of InWindow refusal office }
+    ensures { result ≡ fault_of InWindow refusal office }
 {
     Fault {
         layer: Layer::Window,

@@ -1,6 +1,6 @@
 // How a window begins: the slacks read off a ladder, and empty books.
 ghost use Rattle.std.specs.Prelude.{◌≡◌, ℕ, ◌+◌, ◌-◌, ◌*◌, ◌^◌, ◌<◌, ◌≤◌, length, replicate};
-ghost use Rattle.window.specs.Parts.{slack as slack-of};
+ghost use Rattle.window.specs.Parts.{slack as slack_of};
 ghost use Rattle.window.specs.Opening.{opened};
 
 use crate::books::{Books, Coordinator, OfficeRecord};
@@ -14,7 +14,7 @@ pub fn read_setting<L: Ladder>(offices: u32, ladder: &L) -> SettingTable
     requires few { offices ≤ 64 }
     ensures offices { result.offices ≡ offices }
     ensures steps { result.steps ≡ L.Ladder.steps ladder.now }
-    ensures slacks { (j : ℕ) → j ≤ result.steps → slack-of result j ≡ L.Ladder.slack ladder.now j }
+    ensures slacks { (j : ℕ) → j ≤ result.steps → slack_of result j ≡ L.Ladder.slack ladder.now j }
 {
     let steps = ladder.step_count();
     let mut slacks = [0; 17];

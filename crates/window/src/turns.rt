@@ -2,7 +2,7 @@
 ghost use Rattle.std.specs.Prelude.{◌≡◌, ℕ, ◌+◌, ◌-◌, ◌*◌, ◌^◌, ◌<◌, ◌≤◌, List, length};
 ghost use Rattle.post.specs.Outs.{out};
 ghost use Rattle.window.specs.Parts.{message, heard, heard_of, office};
-ghost use Rattle.window.specs.Turns.{at, tell as tell-lanes, hear as hear-state, drain, coordinator_part, signal as signal-lanes, follow as follow-state, office_part, turn as turn-state};
+ghost use Rattle.window.specs.Turns.{at, tell as tell_lanes, hear as hear_state, drain, coordinator_part, signal as signal_lanes, follow as follow_state, office_part, turn as turn_state};
 
 use crate::checked_books::{CheckedBooks, SIGNAL, read_message};
 use fault::Fault;
@@ -12,7 +12,7 @@ use post::Post;
 fn tell<P: Post>(post: &mut P, k: u32, byte: u8) -> Result<(), Fault>
     requires { k ≤ 64 }
     ensures became { became post.old post.new }
-    ensures did { out (lanes post.new) result ≡ tell-lanes k byte (lanes post.old) }
+    ensures did { out (lanes post.new) result ≡ tell_lanes k byte (lanes post.old) }
 {
     for i in 0..k {
         post.send(2 * i + 1, byte)?;
@@ -24,7 +24,7 @@ fn tell<P: Post>(post: &mut P, k: u32, byte: u8) -> Result<(), Fault>
 fn hear<P: Post>(post: &mut P, checked: &mut CheckedBooks, i: u32, byte: u8) -> Result<(), Fault>
     requires { i < 64 }
     ensures became { became post.old post.new }
-    ensures did { out (at checked.new.books (lanes post.new)) result ≡ hear-state i byte (at checked.old.books (lanes post.old)) }
+    ensures did { out (at checked.new.books (lanes post.new)) result ≡ hear_state i byte (at checked.old.books (lanes post.old)) }
 {
     match checked.hear(i, read_message(byte)) {
         Some(reply) => tell(post, checked.books.setting.offices, reply),
@@ -36,7 +36,7 @@ fn hear<P: Post>(post: &mut P, checked: &mut CheckedBooks, i: u32, byte: u8) -> 
 fn hear_office<P: Post>(post: &mut P, checked: &mut CheckedBooks, i: u32) -> Result<(), Fault>
     requires { i < 64 }
     ensures became { became post.old post.new }
-    ensures did { out (at checked.new.books (lanes post.new)) result ≡ drain (2 * i) (hear-state i) (at checked.old.books (lanes post.old)) }
+    ensures did { out (at checked.new.books (lanes post.new)) result ≡ drain (2 * i) (hear_state i) (at checked.old.books (lanes post.old)) }
 {
     while let Some(byte) = post.take(2 * i)? {
         hear(post, checked, i, byte)?;
@@ -60,7 +60,7 @@ fn signal<P: Post>(post: &mut P, i: u32, step: u32, n: u32) -> Result<(), Fault>
     requires within { i < 64 }
     requires small { step < 32 }
     ensures became { became post.old post.new }
-    ensures did { out (lanes post.new) result ≡ signal-lanes i step n (lanes post.old) }
+    ensures did { out (lanes post.new) result ≡ signal_lanes i step n (lanes post.old) }
 {
     for _t in 0..n {
         post.send(2 * i, (SIGNAL + step) as u8)?;
@@ -72,7 +72,7 @@ fn signal<P: Post>(post: &mut P, i: u32, step: u32, n: u32) -> Result<(), Fault>
 fn follow<P: Post>(post: &mut P, checked: &mut CheckedBooks, i: u32, byte: u8) -> Result<(), Fault>
     requires { i < 64 }
     ensures became { became post.old post.new }
-    ensures did { out (at checked.new.books (lanes post.new)) result ≡ follow-state i byte (at checked.old.books (lanes post.old)) }
+    ensures did { out (at checked.new.books (lanes post.new)) result ≡ follow_state i byte (at checked.old.books (lanes post.old)) }
 {
     let n = checked.follow(i, read_message(byte));
     signal(post, i, checked.books.table[i as usize].step, n)
@@ -82,7 +82,7 @@ fn follow<P: Post>(post: &mut P, checked: &mut CheckedBooks, i: u32, byte: u8) -
 fn follow_office<P: Post>(post: &mut P, checked: &mut CheckedBooks, i: u32) -> Result<(), Fault>
     requires { i < 64 }
     ensures became { became post.old post.new }
-    ensures did { out (at checked.new.books (lanes post.new)) result ≡ drain (2 * i + 1) (follow-state i) (at checked.old.books (lanes post.old)) }
+    ensures did { out (at checked.new.books (lanes post.new)) result ≡ drain (2 * i + 1) (follow_state i) (at checked.old.books (lanes post.old)) }
 {
     while let Some(byte) = post.take(2 * i + 1)? {
         follow(post, checked, i, byte)?;
@@ -103,7 +103,7 @@ fn follow_all<P: Post>(post: &mut P, checked: &mut CheckedBooks) -> Result<(), F
 
 pub fn turn<P: Post>(post: &mut P, checked: &mut CheckedBooks) -> Result<(), Fault>
     ensures became { became post.old post.new }
-    ensures did { out (at checked.new.books (lanes post.new)) result ≡ turn-state (at checked.old.books (lanes post.old)) }
+    ensures did { out (at checked.new.books (lanes post.new)) result ≡ turn_state (at checked.old.books (lanes post.old)) }
 {
     hear_all(post, checked)?;
     follow_all(post, checked)

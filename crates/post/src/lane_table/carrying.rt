@@ -1,7 +1,7 @@
 // What a table of lanes does, for any number of offices that use it.
 ghost use Rattle.std.specs.Prelude.{◌≡◌, ℕ, ◌*◌, ◌<◌, ◌≤◌, true, false, length, replicate, is_ok, is_err, IfOk, None, Ok, MatchResult, nat_le, slice_set};
 ghost use Rattle.fault.specs.declared.Refusal.TheVariants.{NoSuchOfficeOrLane};
-ghost use Rattle.post.specs.Lanes.{no_lane, lane as lane_of, lane_fault, joined, all_sent, send as send-lane, take as take-lane, send_answer, sent_answer, waiting_answer};
+ghost use Rattle.post.specs.Lanes.{no_lane, lane as lane_of, lane_fault, joined, all_sent, send as send_lane, take as take_lane, send_answer, sent_answer, waiting_answer};
 ghost use Rattle.post.specs.Outs.{out};
 ghost use Rattle.post.specs.Tables.{shown, slots_shown, used};
 
@@ -54,7 +54,7 @@ impl LaneTable {
 
     // The byte joins the end of the lane; after a refusal the whole table is as it was.
     pub fn send(&mut self, offices: u32, lane: u32, byte: u8) -> Result<(), Fault>
-        ensures did { out (used offices self.new) result ≡ send-lane lane byte (used offices self.old) }
+        ensures did { out (used offices self.new) result ≡ send_lane lane byte (used offices self.old) }
         ensures refused { is_err result ≡ true → self.new ≡ self.old }
         ensures whole { is_ok result ≡ true → slots_shown self.new ≡ joined (slots_shown self.old) lane byte }
     {
@@ -66,10 +66,10 @@ impl LaneTable {
 
     // The first byte that waits leaves the lane; after a refusal, or if none waits, the whole table is as it was.
     pub fn take(&mut self, offices: u32, lane: u32) -> Result<Option<u8>, Fault>
-        ensures did { out (used offices self.new) result ≡ take-lane lane (used offices self.old) }
+        ensures did { out (used offices self.new) result ≡ take_lane lane (used offices self.old) }
         ensures refused { is_err result ≡ true → self.new ≡ self.old }
         ensures none { result ≡ Ok None → self.new ≡ self.old }
-        ensures whole { is_ok result ≡ true → out (slots_shown self.new) result ≡ take-lane lane (slots_shown self.old) }
+        ensures whole { is_ok result ≡ true → out (slots_shown self.new) result ≡ take_lane lane (slots_shown self.old) }
         ensures total { all_sent (slots_shown self.new) ≡ all_sent (slots_shown self.old) }
     {
         let mut slot = self.slot(offices, lane)?;

@@ -7,19 +7,19 @@ use Rattle.ladder.proofs.listed_ladder.check_divisors.Goals as goal
 
 pub returns-then-divisor-lt2 : goal.returns-then-divisor-lt2
 returns-then-divisor-lt2 c =
-    ap Some c.out-of-range.ensures ∙ refused_range c.loop-divisor.top c.args.divisors.now c.loop-divisor.divisor-index _ c.loop-divisor.invariant.1 c.loop-divisor-test.true c.then-divisor-lt2.either
+    ap Some c.out_of_range.ensures ∙ refused_range c.loop-divisor.top c.args.divisors.now c.loop-divisor.divisor-index _ c.loop-divisor.invariant.1 c.loop-divisor-test.true c.then-divisor-lt2.either
 
-pub overflow-mul-top : goal.overflow-mul-top
-overflow-mul-top c =
-    omega (arith, mul-le c.loop-divisor.top (get_or c.args.divisors.now c.loop-divisor.divisor-index 0) 16777216 16 c.loop-divisor.invariant.0 c.if-divisor-gt-LARGEST-DIVISOR.false)
+pub overflow_mul-top : goal.overflow_mul-top
+overflow_mul-top c =
+    omega (arith, mul-le c.loop-divisor.top (get_or c.args.divisors.now c.loop-divisor.divisor-index 0) 16777216 16 c.loop-divisor.invariant.0 c.if-divisor-gt-LARGEST_DIVISOR.false)
 
-pub returns-then-top-gt-LARGEST-TOP : goal.returns-then-top-gt-LARGEST-TOP
-returns-then-top-gt-LARGEST-TOP c =
-    ap Some c.out-of-range-then-top-gt-LARGEST-TOP.ensures ∙ refused_top c.loop-divisor.top c.args.divisors.now c.loop-divisor.divisor-index _ c.loop-divisor.invariant.1 c.loop-divisor-test.true c.if-divisor-lt2.false c.if-divisor-gt-LARGEST-DIVISOR.false c.if-top-gt-LARGEST-TOP.true
+pub returns-then-top-gt-LARGEST_TOP : goal.returns-then-top-gt-LARGEST_TOP
+returns-then-top-gt-LARGEST_TOP c =
+    ap Some c.out_of_range-then-top-gt-LARGEST_TOP.ensures ∙ refused_top c.loop-divisor.top c.args.divisors.now c.loop-divisor.divisor-index _ c.loop-divisor.invariant.1 c.loop-divisor-test.true c.if-divisor-lt2.false c.if-divisor-gt-LARGEST_DIVISOR.false c.if-top-gt-LARGEST_TOP.true
 
 pub loop-divisor-preserved : goal.loop-divisor-preserved
 loop-divisor-preserved c =
-    (c.if-top-gt-LARGEST-TOP.false, goes_on c.loop-divisor.top c.args.divisors.now c.loop-divisor.divisor-index _ c.loop-divisor.invariant.1 c.loop-divisor-test.true c.if-divisor-lt2.false c.if-divisor-gt-LARGEST-DIVISOR.false c.if-top-gt-LARGEST-TOP.false)
+    (c.if-top-gt-LARGEST_TOP.false, goes_on c.loop-divisor.top c.args.divisors.now c.loop-divisor.divisor-index _ c.loop-divisor.invariant.1 c.loop-divisor-test.true c.if-divisor-lt2.false c.if-divisor-gt-LARGEST_DIVISOR.false c.if-top-gt-LARGEST_TOP.false)
 
 pub returns : goal.returns
 returns c =

@@ -12,6 +12,6 @@ returns c =
     let day = c.args.day.now in
     let marks = line marks_key (decimal (length day.marks.now)) in
     let many = decimal (length (vec_items day.lots)) in
-    let h1 = holds_more (λ r. text ++ r) marks_key (decimal (length day.marks.now)) _ (holds_first text c.in-ok-out.ensures) c.in-ok-push-number-line.ensures refl in
-    let h2 = holds_more (λ r. text ++ marks r) lots_key many _ h1 c.in-ok-push-number-line-2.ensures (ap decimal (c.len.ensures ∙ day.lots.ok.0)) in
+    let h1 = holds_more (λ r. text ++ r) marks_key (decimal (length day.marks.now)) _ (holds_first text c.in_ok-out.ensures) c.in_ok-push_number_line.ensures refl in
+    let h2 = holds_more (λ r. text ++ marks r) lots_key many _ h1 c.in_ok-push_number_line-2.ensures (ap decimal (c.len.ensures ∙ day.lots.ok.0)) in
     holds_all (λ r. text ++ marks (line lots_key many r)) _ h2

@@ -12,8 +12,8 @@ returns c =
     let offices = line offices_key (decimal x.offices) in
     let grain = line grain_key (decimal x.grain) in
     let ladder = line ladder_key (ladder_text (ladder_model x.ladder)) in
-    let h1 = holds_more (λ r. r) offices_key (decimal x.offices) _ (holds_first [] c.new-out.ensures.items) c.in-ok-push-number-line.ensures refl in
-    let h2 = holds_more offices grain_key (decimal x.grain) _ h1 c.in-ok-push-number-line-2.ensures refl in
-    let h3 = holds_more (λ r. offices (grain r)) ladder_key (ladder_text (ladder_model x.ladder)) _ h2 c.in-ok-push-line.ensures (c.as-slice.ensures.value ∙ c.in-ok-ladder.ensures) in
-    let h4 = holds_more (λ r. offices (grain (ladder r))) post_key (post_text x.post) _ h3 c.in-ok-push-line-2.ensures c.post_text.ensures in
+    let h1 = holds_more (λ r. r) offices_key (decimal x.offices) _ (holds_first [] c.new-out.ensures.items) c.in_ok-push_number_line.ensures refl in
+    let h2 = holds_more offices grain_key (decimal x.grain) _ h1 c.in_ok-push_number_line-2.ensures refl in
+    let h3 = holds_more (λ r. offices (grain r)) ladder_key (ladder_text (ladder_model x.ladder)) _ h2 c.in_ok-push_line.ensures (c.as_slice.ensures.value ∙ c.in_ok-ladder.ensures) in
+    let h4 = holds_more (λ r. offices (grain (ladder r))) post_key (post_text x.post) _ h3 c.in_ok-push_line-2.ensures c.post_text.ensures in
     holds_all (λ r. offices (grain (ladder (line post_key (post_text x.post) r)))) _ h4

@@ -20,12 +20,12 @@ module _ (g : ℕ) {w : ℕ} (held : List ℕ) (is : w ≡ g * product held) (he
   whole-more : {all : List ℕ} (d : ℕ) → all ≡ held ++ d ∷ [] → w * d ≡ g * product all
   whole-more d e = ap (λ n. n * d) is ∙ mul_assoc g (product held) d ∙ ap (λ n. g * n) (sym (product_push held d)) ∙ ap (λ ds. g * product ds) (sym e)
 
-pub returns-in-err-next : goal.returns-in-err-next
-returns-in-err-next c =
-    let p = err_from_is_err_and c.from-residual.result c.from-residual.ensures.1 in
+pub returns-in_err-next : goal.returns-in_err-next
+returns-in_err-next c =
+    let p = err_from_is_err_and c.from_residual.result c.from_residual.ensures.1 in
     let inv = c.loop-divisors.invariant in
     rw (p.1, p.2) (record {
-      value = (stop_err inv.0 _ (over c.args.grain (vec_items c.loop-divisors.divisors) inv.2 c.loop-divisors.reader c.in-err-next.ensures.value.0), c.in-err-next.ensures.value.1);
+      value = (stop_err inv.0 _ (over c.args.grain (vec_items c.loop-divisors.divisors) inv.2 c.loop-divisors.reader c.in_err-next.ensures.value.0), c.in_err-next.ensures.value.1);
       same = same_trans inv.0.same c.divisor.ensures.same;
     })
 
@@ -33,25 +33,25 @@ pub returns-then-not-stands : goal.returns-then-not-stands
 returns-then-not-stands c =
     let inv = c.loop-divisors.invariant in
     record {
-      value = stop_done inv.0 c.divisor.new.reader _ (over c.args.grain (vec_items c.loop-divisors.divisors) inv.2 c.loop-divisors.reader c.in-ok-next.ensures.value) c.divisor.ensures.same c.if-not-stands.ensures.value c.in-ok-push.ensures.items refl;
+      value = stop_done inv.0 c.divisor.new.reader _ (over c.args.grain (vec_items c.loop-divisors.divisors) inv.2 c.loop-divisors.reader c.in_ok-next.ensures.value) c.divisor.ensures.same c.if-not-stands.ensures.value c.in_ok-push.ensures.items refl;
       same = same_trans inv.0.same c.divisor.ensures.same;
     }
 
-pub returns-then-len-eq-MOST-DIVISORS : goal.returns-then-len-eq-MOST-DIVISORS
-returns-then-len-eq-MOST-DIVISORS c =
+pub returns-then-len-eq-MOST_DIVISORS : goal.returns-then-len-eq-MOST_DIVISORS
+returns-then-len-eq-MOST_DIVISORS c =
     let inv = c.loop-divisors.invariant in
-    let last : vec_len c.loop-divisors.divisors ≡ 15 = omega (arith, c.len.ensures, c.if-len-eq-MOST-DIVISORS.true, c.in-ok-push.ensures.len) in
+    let last : vec_len c.loop-divisors.divisors ≡ 15 = omega (arith, c.len.ensures, c.if-len-eq-MOST_DIVISORS.true, c.in_ok-push.ensures.len) in
     record {
-      value = (stop_full inv.0 c.divisor.new.reader _ (over c.args.grain (vec_items c.loop-divisors.divisors) inv.2 c.loop-divisors.reader c.in-ok-next.ensures.value) c.divisor.ensures.same last c.if-not-stands.ensures.value c.fault.ensures.value, ap (λ f. f.place) (sym c.fault.ensures.value));
+      value = (stop_full inv.0 c.divisor.new.reader _ (over c.args.grain (vec_items c.loop-divisors.divisors) inv.2 c.loop-divisors.reader c.in_ok-next.ensures.value) c.divisor.ensures.same last c.if-not-stands.ensures.value c.fault.ensures.value, ap (λ f. f.place) (sym c.fault.ensures.value));
       same = same_trans inv.0.same c.divisor.ensures.same;
     }
 
 pub loop-divisors-preserved : goal.loop-divisors-preserved
 loop-divisors-preserved c =
     let inv = c.loop-divisors.invariant in
-    let few : vec_len c.loop-divisors.divisors < 15 = omega (arith, inv.1, c.len.ensures, c.if-len-eq-MOST-DIVISORS.false, c.in-ok-push.ensures.len) in
+    let few : vec_len c.loop-divisors.divisors < 15 = omega (arith, inv.1, c.len.ensures, c.if-len-eq-MOST_DIVISORS.false, c.in_ok-push.ensures.len) in
     let past : c.skip.new.self.place ≡ c.divisor.new.reader.place + 1 = c.skip.ensures.after ∙ ap (λ b. cond b (c.divisor.new.reader.place + 1) c.divisor.new.reader.place) (c.skip.ensures.value ∙ sym c.if-not-stands.ensures.value) in (
-      go_on inv.0 c.divisor.new.reader _ (over c.args.grain (vec_items c.loop-divisors.divisors) inv.2 c.loop-divisors.reader c.in-ok-next.ensures.value) c.divisor.ensures.same c.skip.new.self few c.if-not-stands.ensures.value c.skip.ensures.same past c.in-ok-push.ensures.items c.in-ok-push.ensures.len,
-      omega (arith, few, c.in-ok-push.ensures.len),
-      whole-more c.args.grain (vec_items c.loop-divisors.divisors) inv.2 c.loop-divisors.reader _ c.in-ok-push.ensures.items,
+      go_on inv.0 c.divisor.new.reader _ (over c.args.grain (vec_items c.loop-divisors.divisors) inv.2 c.loop-divisors.reader c.in_ok-next.ensures.value) c.divisor.ensures.same c.skip.new.self few c.if-not-stands.ensures.value c.skip.ensures.same past c.in_ok-push.ensures.items c.in_ok-push.ensures.len,
+      omega (arith, few, c.in_ok-push.ensures.len),
+      whole-more c.args.grain (vec_items c.loop-divisors.divisors) inv.2 c.loop-divisors.reader _ c.in_ok-push.ensures.items,
     )

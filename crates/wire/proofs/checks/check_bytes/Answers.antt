@@ -4,13 +4,13 @@ use Rattle.wire.specs.Makers.{bytes_fault}
 use Rattle.wire.proofs.Bytes.{no_mark, goes_on}
 use Rattle.wire.proofs.checks.check_bytes.Goals as goal
 
-pub returns-then-not-is-mark : goal.returns-then-not-is-mark
-returns-then-not-is-mark c =
-    ap Some c.wire-fault.ensures ∙ no_mark c.args.bytes.now c.loop-index.index _ c.loop-index.invariant c.loop-index-test.true (sym c.if-not-is-mark.ensures)
+pub returns-then-not-is_mark : goal.returns-then-not-is_mark
+returns-then-not-is_mark c =
+    ap Some c.wire_fault.ensures ∙ no_mark c.args.bytes.now c.loop-index.index _ c.loop-index.invariant c.loop-index-test.true (sym c.if-not-is_mark.ensures)
 
 pub loop-index-preserved : goal.loop-index-preserved
 loop-index-preserved c =
-    goes_on c.args.bytes.now c.loop-index.index _ c.loop-index.invariant c.loop-index-test.true (sym c.if-not-is-mark.ensures)
+    goes_on c.args.bytes.now c.loop-index.index _ c.loop-index.invariant c.loop-index-test.true (sym c.if-not-is_mark.ensures)
 
 pub returns : goal.returns
 returns c =

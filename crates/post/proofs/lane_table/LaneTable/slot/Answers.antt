@@ -3,8 +3,8 @@ use Rattle.std.proofs.lemmas.Bool.{le-leb, lt-leb}
 use Rattle.post.specs.Shown.{all_length, used_length_min, used_lane, slot_lane}
 use Rattle.post.proofs.lane_table.LaneTable.slot.Goals as goal
 
-pub returns-then-lane-ge-MOST-LANES : goal.returns-then-lane-ge-MOST-LANES
-returns-then-lane-ge-MOST-LANES c =
+pub returns-then-lane-ge-MOST_LANES : goal.returns-then-lane-ge-MOST_LANES
+returns-then-lane-ge-MOST_LANES c =
     let long = used_length_min c.args.offices c.args.self.now in
     record { part = (le-leb _ _ (omega arith), c.lane_fault.ensures); whole = tt }
 
