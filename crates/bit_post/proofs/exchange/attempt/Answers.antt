@@ -28,7 +28,7 @@ answer-requires g c =
     let is = answering_frame c.args.sending c.args.lane c.args.back c.args.byte _ _ _ _ _ (w.lanes c.loop-frame.wire) (w.lanes c.next.new.wire) _ _ c.in-Some.frame _ _ _ h took.takes in
     let bit = ap bit_of is ∙ bit_back c.args.sending c.args.byte c.ranges.byte.fits in
     record {
-      kind = c.if-frame-lt-FIRST-ACKNOWLEDGEMENT.true;
+      kind = c.if-frame-lt-FIRST_ACKNOWLEDGEMENT.true;
       lane = c.requires.lane;
       there = omega (arith, took.same, c.loop-frame.invariant.0, c.place.ensures.same);
       room = omega (arith, h.places, h.number);
@@ -40,10 +40,10 @@ pub loop-frame-preserved : goal.loop-frame-preserved
 loop-frame-preserved g c =
     let w = g.W.Wire in
     let is = answering_frame c.args.sending c.args.lane c.args.back c.args.byte _ _ _ _ _ (w.lanes c.loop-frame.wire) (w.lanes c.next.new.wire) _ _ c.in-Some.frame _ _ _ c.loop-frame.invariant.1 c.in-Some.ensures.takes in
-    absurd (omega (arith, is, data_small c.args.sending c.args.byte c.ranges.byte.fits, c.if-frame-lt-FIRST-ACKNOWLEDGEMENT.false))
+    absurd (omega (arith, is, data_small c.args.sending c.args.byte c.ranges.byte.fits, c.if-frame-lt-FIRST_ACKNOWLEDGEMENT.false))
 
-pub loop-frame-preserved-then-frame-lt-FIRST-ACKNOWLEDGEMENT : goal.loop-frame-preserved-then-frame-lt-FIRST-ACKNOWLEDGEMENT
-loop-frame-preserved-then-frame-lt-FIRST-ACKNOWLEDGEMENT g c =
+pub loop-frame-preserved-then-frame-lt-FIRST_ACKNOWLEDGEMENT : goal.loop-frame-preserved-then-frame-lt-FIRST_ACKNOWLEDGEMENT
+loop-frame-preserved-then-frame-lt-FIRST_ACKNOWLEDGEMENT g c =
     let w = g.W.Wire in
     let goes = g.met.W.Wire.goes in
     let took = c.in-Some.ensures in
@@ -60,7 +60,7 @@ returns g c =
     let by = c.place.ensures.placed in
     let put = by.put in
     let goes = g.met.W.Wire.goes in
-    let took = c.in-default.ensures in
+    let took = c.in_default.ensures in
     let said = c.drain.ensures in
     let first = put.joins ∙ ap (λ l. l.frames ++ copies put.outcome c.data_frame.result) c.requires.clear ∙ ap (copies put.outcome) c.data_frame.ensures in
     let all =

@@ -9,7 +9,7 @@ returns g c =
     record {
       same = search rules;
       calm = search rules;
-      rest = g.met.W.Wire.goes _ _ _ [] [] c.loop-taken.invariant.2 c.in-default.ensures.rest;
+      rest = g.met.W.Wire.goes _ _ _ [] [] c.loop-taken.invariant.2 c.in_default.ensures.rest;
       empty = search rules;
       others = search rules;
       found = search rules;

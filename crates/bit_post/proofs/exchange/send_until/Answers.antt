@@ -5,13 +5,13 @@ use Rattle.bit_post.proofs.Retrials.{delivery_ready, delivery_done, retry_more, 
 use Rattle.bit_post.proofs.exchange.send_until.Goals as goal
 
 pub drain-requires-2 : goal.drain-requires-2
-drain-requires-2 g c = c.other-lane-back.ensures.there _ (omega (arith, c.drain.ensures.same))
+drain-requires-2 g c = c.other_lane-back.ensures.there _ (omega (arith, c.drain.ensures.same))
 
 pub attempts-init : goal.attempts-init
 attempts-init g c = (
   refl,
   record {
-    there_empty = c.drain-2.ensures.others c.args.lane (λ e. c.other-lane-back.ensures.apart (sym e)) ∙ c.drain.ensures.empty;
+    there_empty = c.drain-2.ensures.others c.args.lane (λ e. c.other_lane-back.ensures.apart (sym e)) ∙ c.drain.ensures.empty;
     back_empty = c.drain-2.ensures.empty;
     outcomes = [];
     wire_ran = g.met.W.Wire.rests c.drain-2.new.wire;
@@ -32,8 +32,8 @@ attempt-requires g c =
     record {
       lane = omega (arith, law.few);
       there = omega arith;
-      behind = c.other-lane-back.ensures.there _ (omega arith);
-      apart = c.other-lane-back.ensures.apart;
+      behind = c.other_lane-back.ensures.there _ (omega arith);
+      apart = c.other_lane-back.ensures.apart;
       clear = h.there_empty;
       clean = h.back_empty;
       few = omega (arith, law.bounded, h.troubles, h.puts, failing_few h.failing);
@@ -50,7 +50,7 @@ attempts-preserved g c =
     let w = g.W.Wire in
     let did = c.attempt.ensures in (
       did.same ∙ c.attempts.invariant.0,
-      retry_more c.args.sending c.args.lane c.other-lane-back.result c.args.byte _ (w.lanes c.attempts.wire) (w.lanes c.attempt.new.wire) _ _ _ _ _ _ _ _ _ _ (w.ran c.drain-2.new.wire c.attempts.wire) (w.ran c.attempts.wire c.attempt.new.wire) (w.ran c.drain-2.new.wire c.attempt.new.wire) (g.met.W.Wire.goes _ _ _)
+      retry_more c.args.sending c.args.lane c.other_lane-back.result c.args.byte _ (w.lanes c.attempts.wire) (w.lanes c.attempt.new.wire) _ _ _ _ _ _ _ _ _ _ (w.ran c.drain-2.new.wire c.attempts.wire) (w.ran c.attempts.wire c.attempt.new.wire) (w.ran c.drain-2.new.wire c.attempt.new.wire) (g.met.W.Wire.goes _ _ _)
           c.if-attempt.false c.attempts.invariant.1 did.tried did.far did.clear did.clean,
     )
 
@@ -61,7 +61,7 @@ returns g c =
     let h = c.attempts.invariant.1 in
     let law = g.met.W.Wire.sound c.drain-2.new.wire in
     let done = delivery_done c.args.sending c.args.lane 0 c.args.byte _ _ _ _ _ _ c.if-attempt.true h.delivery did.far in
-    let ran = retry_done c.args.sending c.args.lane c.other-lane-back.result c.args.byte _ (w.lanes c.attempts.wire) _ _ _ _ _ _ _ _ _ (w.ran c.drain-2.new.wire c.attempts.wire) (w.ran c.attempts.wire c.attempt.new.wire) (w.ran c.args.wire.now c.attempt.new.wire) (λ xs ys a b. g.met.W.Wire.goes _ _ _ [] (xs ++ ys) (g.met.W.Wire.goes _ _ _ [] [] c.drain.ensures.rest c.drain-2.ensures.rest) (g.met.W.Wire.goes _ _ _ xs ys a b)) c.if-attempt.true law.bounded (c.drain-2.ensures.calm ∙ c.drain.ensures.calm) h did.tried in
+    let ran = retry_done c.args.sending c.args.lane c.other_lane-back.result c.args.byte _ (w.lanes c.attempts.wire) _ _ _ _ _ _ _ _ _ (w.ran c.drain-2.new.wire c.attempts.wire) (w.ran c.attempts.wire c.attempt.new.wire) (w.ran c.args.wire.now c.attempt.new.wire) (λ xs ys a b. g.met.W.Wire.goes _ _ _ [] (xs ++ ys) (g.met.W.Wire.goes _ _ _ [] [] c.drain.ensures.rest c.drain-2.ensures.rest) (g.met.W.Wire.goes _ _ _ xs ys a b)) c.if-attempt.true law.bounded (c.drain-2.ensures.calm ∙ c.drain.ensures.calm) h did.tried in
     record {
       same = did.same ∙ c.attempts.invariant.0 ∙ c.drain-2.ensures.same ∙ c.drain.ensures.same;
       flips = done.0;

@@ -18,10 +18,10 @@ module _ (i : ℕ) (bytes : List ℕ) (at : ℕ) (lanes after : List Lane) (here
 pub loop-byte-init : goal.loop-byte-init
 loop-byte-init g c = (g.met.P.Post.stays _, refl)
 
-pub returns-in-err-send : goal.returns-in-err-send
-returns-in-err-send g c =
-    let p = err_from_is_err_and c.from-residual.result c.from-residual.ensures.1 in
-    let t = turn c.args.lane c.args.bytes.now c.loop-byte.byte-index (g.P.Post.lanes c.loop-byte.post) (g.P.Post.lanes c.send.new.self) c.loop-byte-test.true _ c.in-err-send.ensures.did in
+pub returns-in_err-send : goal.returns-in_err-send
+returns-in_err-send g c =
+    let p = err_from_is_err_and c.from_residual.result c.from_residual.ensures.1 in
+    let t = turn c.args.lane c.args.bytes.now c.loop-byte.byte-index (g.P.Post.lanes c.loop-byte.post) (g.P.Post.lanes c.send.new.self) c.loop-byte-test.true _ c.in_err-send.ensures.did in
     record {
       became = g.met.P.Post.joins _ _ _ c.loop-byte.invariant.0 c.send.ensures.became;
       did = rw (p.1, p.2) (sym t ∙ c.loop-byte.invariant.1);
@@ -29,7 +29,7 @@ returns-in-err-send g c =
 
 pub loop-byte-preserved : goal.loop-byte-preserved
 loop-byte-preserved g c =
-    let t = turn c.args.lane c.args.bytes.now c.loop-byte.byte-index (g.P.Post.lanes c.loop-byte.post) (g.P.Post.lanes c.send.new.self) c.loop-byte-test.true _ c.in-ok-send.ensures.did in
+    let t = turn c.args.lane c.args.bytes.now c.loop-byte.byte-index (g.P.Post.lanes c.loop-byte.post) (g.P.Post.lanes c.send.new.self) c.loop-byte-test.true _ c.in_ok-send.ensures.did in
     (g.met.P.Post.joins _ _ _ c.loop-byte.invariant.0 c.send.ensures.became, sym t ∙ c.loop-byte.invariant.1)
 
 pub returns : goal.returns

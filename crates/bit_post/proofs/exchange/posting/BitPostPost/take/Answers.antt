@@ -8,12 +8,12 @@ use Rattle.bit_post.specs.Becoming.{became_same}
 use Rattle.bit_post.proofs.Taking.{take_refused, take_none, take_some}
 use Rattle.bit_post.proofs.exchange.posting.BitPostPost.take.Goals as goal
 
-pub returns-in-err-waiting-count : goal.returns-in-err-waiting-count
-returns-in-err-waiting-count g c =
+pub returns-in_err-waiting_count : goal.returns-in_err-waiting_count
+returns-in_err-waiting_count g c =
     let p = c.args.self.now in
     let k = g.W.Wire.offices p.wire in
-    let r = err_from_is_err_and c.from-residual.result c.from-residual.ensures.1 in
-    let e = c.in-err-waiting-count.ensures ∙ ap (λ n. waiting_answer (used n p.table) c.args.lane) c.office-count-offices.ensures in
+    let r = err_from_is_err_and c.from_residual.result c.from_residual.ensures.1 in
+    let e = c.in_err-waiting_count.ensures ∙ ap (λ n. waiting_answer (used n p.table) c.args.lane) c.office_count-offices.ensures in
     record {
       became = became_same _ _ (g.W.Wire.ran p.wire p.wire) (g.met.W.Wire.rests p.wire) refl;
       did = rw (r.1, r.2) (take_refused (used k p.table) c.args.lane _ e);
@@ -26,7 +26,7 @@ pub returns-then-branch-eq0 : goal.returns-then-branch-eq0
 returns-then-branch-eq0 g c =
     let p = c.args.self.now in
     let k = g.W.Wire.offices p.wire in
-    let e = c.in-ok-waiting-count.ensures ∙ ap (λ n. waiting_answer (used n p.table) c.args.lane) c.office-count-offices.ensures in
+    let e = c.in_ok-waiting_count.ensures ∙ ap (λ n. waiting_answer (used n p.table) c.args.lane) c.office_count-offices.ensures in
     record {
       became = became_same _ _ (g.W.Wire.ran p.wire p.wire) (g.met.W.Wire.rests p.wire) refl;
       did = take_none (used k p.table) c.args.lane _ e c.if-branch-eq0.true;
@@ -42,8 +42,8 @@ returns g c =
     let i = c.args.lane in
     let t = p.table in
     let t' = c.take.new.self in
-    let o = c.office-count-offices.ensures in
-    let e = c.in-ok-waiting-count.ensures ∙ ap (λ n. waiting_answer (used n t) i) o in
+    let o = c.office_count-offices.ensures in
+    let e = c.in_ok-waiting_count.ensures ∙ ap (λ n. waiting_answer (used n t) i) o in
     let did = (λ j. out (used (sym o j) t') c.take.result) ∙ c.take.ensures.did ∙ ap (λ n. take i (used n t)) o in
     let sure = take_some (used k t) i _ e (omega (arith, c.if-branch-eq0.false)) in
     let answer = ap (λ x. x.answer) did in
