@@ -3,4 +3,4 @@ use Rattle.writer.proofs.Joined.{line_put}
 use Rattle.writer.proofs.push_line.Goals as goal
 
 pub returns : goal.returns
-returns c = line_put (vec_items c.args.out.now) c.args.key.now c.args.value.now c.in-ok-extend-from-slice.ensures.items c.in-ok-extend-from-slice-2.ensures.items c.in-ok-push.ensures.items
+returns c = line_put (vec_items c.args.out.now) c.args.key.now c.args.value.now c.in_ok-extend_from_slice.ensures.items c.in_ok-extend_from_slice-2.ensures.items c.in_ok-push.ensures.items

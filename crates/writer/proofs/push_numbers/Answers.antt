@@ -9,8 +9,8 @@ pub loop-i-preserved : goal.loop-i-preserved
 loop-i-preserved c =
     let out = vec_items c.args.out.now in
     elim c.if-i-gt0.branch [
-      | then-i-gt0+in_ok-extend_from_slice w ↦ put_more c.args.numbers.now c.loop-i.i out c.loop-i-test.true w.if-i-gt0.true c.loop-i.invariant (ap vec_items w.out-is ∙ w.in-ok-extend-from-slice.ensures.items) c.in-ok-push-number.ensures
-      | else-i-gt0 w ↦ put_first c.args.numbers.now c.loop-i.i out c.loop-i-test.true (omega arith) (ap vec_items w.out-is ∙ c.loop-i.invariant) c.in-ok-push-number.ensures
+      | then-i-gt0+in_ok-extend_from_slice w ↦ put_more c.args.numbers.now c.loop-i.i out c.loop-i-test.true w.if-i-gt0.true c.loop-i.invariant (ap vec_items w.out-is ∙ w.in_ok-extend_from_slice.ensures.items) c.in_ok-push_number.ensures
+      | else-i-gt0 w ↦ put_first c.args.numbers.now c.loop-i.i out c.loop-i-test.true (omega arith) (ap vec_items w.out-is ∙ c.loop-i.invariant) c.in_ok-push_number.ensures
     ]
 
 pub returns : goal.returns

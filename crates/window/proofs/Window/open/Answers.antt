@@ -18,21 +18,21 @@ pub returns : goal.returns
 returns g c =
     let law = g.met.P.Post.sound c.args.post in
     let ls = g.P.Post.lanes c.args.post in
-    let t = c.read-setting.result in
-    let b = c.open-books-checked.result.books in
-    let unused = c.is-unused-used.result in
-    let k_is : t.offices ≡ g.P.Post.offices c.args.post = c.read-setting.ensures.offices ∙ c.office-count.ensures in
-    let books_are : b ≡ opened t = c.open-books-checked.ensures in
+    let t = c.read_setting.result in
+    let b = c.open_books-checked.result.books in
+    let unused = c.is_unused-used.result in
+    let k_is : t.offices ≡ g.P.Post.offices c.args.post = c.read_setting.ensures.offices ∙ c.office_count.ensures in
+    let books_are : b ≡ opened t = c.open_books-checked.ensures in
     let t-is : b.setting ≡ t = ap (λ (b : Books). b.setting) books_are in
     let reached : Unused ls → ReachedBy [] [] (not unused) (at b ls) = λ none.
     to_reached (setting_in t) [] (not unused) (at b ls)
-    (opened_held (setting_in t) t ls b (not unused) (own_terms t) books_are (ap not (c.is-unused-used.ensures.1 none)) none (even_opened (g.P.Post.offices c.args.post) t b ls law k_is books_are none))
+    (opened_held (setting_in t) t ls b (not unused) (own_terms t) books_are (ap not (c.is_unused-used.ensures.1 none)) none (even_opened (g.P.Post.offices c.args.post) t b ls law k_is books_are none))
     (ap setting_in t-is) in
     record {
       post = refl;
-      setting = ap setting_in t-is ∙ setting_read t _ _ _ k_is c.read-setting.ensures.steps c.read-setting.ensures.slacks;
+      setting = ap setting_in t-is ∙ setting_read t _ _ _ k_is c.read_setting.ensures.steps c.read_setting.ensures.slacks;
       books = books_are ∙ ap opened (sym t-is);
-      unused = ((λ yes. c.is-unused-used.ensures.0 (sym (twice-not unused) ∙ yes)), (λ none. twice-not unused ∙ c.is-unused-used.ensures.1 none));
+      unused = ((λ yes. c.is_unused-used.ensures.0 (sym (twice-not unused) ∙ yes)), (λ none. twice-not unused ∙ c.is_unused-used.ensures.1 none));
       reached = reached;
       lawful = λ none. lawful [] [] _ _ (reached none);
     }

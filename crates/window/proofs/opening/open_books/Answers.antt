@@ -1,8 +1,20 @@
 use Rattle.window.proofs.Sound.{sound_opened}
 use Rattle.window.proofs.opening.open_books.Goals as goal
 
-pub invariant-of-result : goal.invariant-of-result
-invariant-of-result c =
+pub invariant_of-result : goal.invariant_of-result
+invariant_of-result c =
     let s = sound_opened c.args.setting in
     let h = s.coordinator in
-    (s.tall, (h.from, (h.to, (h.few, (h.going, (h.over, (h.last, ((λ i l. (s.table i l).from), ((λ i l. (s.table i l).to), ((λ i l. (s.table i l).left), ((λ i l. (s.table i l).paid), tt)))))))))))
+    record {
+      tall = s.tall;
+      from = h.from;
+      to = h.to;
+      few = h.few;
+      going = h.going;
+      over = h.over;
+      last = h.last;
+      begun = λ i l. (s.table i l).from;
+      within = λ i l. (s.table i l).to;
+      left = λ i l. (s.table i l).left;
+      paid = λ i l. (s.table i l).paid;
+    }

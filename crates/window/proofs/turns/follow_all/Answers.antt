@@ -7,15 +7,15 @@ loop-i-init g c = (g.met.P.Post.stays _, each_none _ _ _)
 
 pub loop-i-preserved : goal.loop-i-preserved
 loop-i-preserved g c = (
-  g.met.P.Post.joins _ _ _ c.loop-i.invariant.0 c.follow-office.ensures.became,
-  each_more _ _ _ c.loop-i-test.true c.follow-office.ensures.did c.in-ok-follow-office.was ∙ c.loop-i.invariant.1,
+  g.met.P.Post.joins _ _ _ c.loop-i.invariant.0 c.follow_office.ensures.became,
+  each_more _ _ _ c.loop-i-test.true c.follow_office.ensures.did c.in_ok-follow_office.was ∙ c.loop-i.invariant.1,
 )
 
 pub returns : goal.returns
 returns g c = record { became = c.loop-i.invariant.0; did = each_done _ _ _ _ c.loop-i-test.false ∙ c.loop-i.invariant.1 }
 
-pub returns-in-err-follow-office : goal.returns-in-err-follow-office
-returns-in-err-follow-office g c = record {
-  became = g.met.P.Post.joins _ _ _ c.loop-i.invariant.0 c.follow-office.ensures.became;
-  did = passed c.from-residual.ensures.1 (each_broke _ _ _ c.loop-i-test.true c.follow-office.ensures.did c.in-err-follow-office.was ∙ c.loop-i.invariant.1);
+pub returns-in_err-follow_office : goal.returns-in_err-follow_office
+returns-in_err-follow_office g c = record {
+  became = g.met.P.Post.joins _ _ _ c.loop-i.invariant.0 c.follow_office.ensures.became;
+  did = passed c.from_residual.ensures.1 (each_broke _ _ _ c.loop-i-test.true c.follow_office.ensures.did c.in_err-follow_office.was ∙ c.loop-i.invariant.1);
 }

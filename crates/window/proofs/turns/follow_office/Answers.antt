@@ -9,28 +9,28 @@ loop-byte-init g c = (g.met.P.Post.stays _, refl)
 
 pub loop-byte-smaller : goal.loop-byte-smaller
 loop-byte-smaller g c =
-    drain_falls _ (follow c.args.i) c.loop-byte.checked.books _ _ c.take.ensures.did (c.in-ok-byte.was ∙ ap Ok c.in-Some.is) (follow_holds _ _ _ c.follow.ensures.did)
+    drain_falls _ (follow c.args.i) c.loop-byte.checked.books _ _ c.take.ensures.did (c.in_ok-byte.was ∙ ap Ok c.in-Some.is) (follow_holds _ _ _ c.follow.ensures.did)
 
 pub loop-byte-preserved : goal.loop-byte-preserved
 loop-byte-preserved g c = (
   g.met.P.Post.joins _ _ _ c.loop-byte.invariant.0 (g.met.P.Post.joins _ _ _ c.take.ensures.became c.follow.ensures.became),
-  drain_more _ _ _ _ _ c.take.ensures.did (c.in-ok-byte.was ∙ ap Ok c.in-Some.is) c.follow.ensures.did c.in-ok-follow.was (follow_holds _ _ _ c.follow.ensures.did) ∙ c.loop-byte.invariant.1,
+  drain_more _ _ _ _ _ c.take.ensures.did (c.in_ok-byte.was ∙ ap Ok c.in-Some.is) c.follow.ensures.did c.in_ok-follow.was (follow_holds _ _ _ c.follow.ensures.did) ∙ c.loop-byte.invariant.1,
 )
 
-pub returns-in-err-byte : goal.returns-in-err-byte
-returns-in-err-byte g c = record {
+pub returns-in_err-byte : goal.returns-in_err-byte
+returns-in_err-byte g c = record {
   became = g.met.P.Post.joins _ _ _ c.loop-byte.invariant.0 c.take.ensures.became;
-  did = passed c.from-residual.ensures.1 (drain_stop _ _ _ _ _ c.take.ensures.did c.in-err-byte.was ∙ c.loop-byte.invariant.1);
+  did = passed c.from_residual.ensures.1 (drain_stop _ _ _ _ _ c.take.ensures.did c.in_err-byte.was ∙ c.loop-byte.invariant.1);
 }
 
-pub returns-in-err-follow : goal.returns-in-err-follow
-returns-in-err-follow g c = record {
+pub returns-in_err-follow : goal.returns-in_err-follow
+returns-in_err-follow g c = record {
   became = g.met.P.Post.joins _ _ _ c.loop-byte.invariant.0 (g.met.P.Post.joins _ _ _ c.take.ensures.became c.follow.ensures.became);
-  did = passed c.from-residual-in-err-follow.ensures.1 (drain_broke _ _ _ _ _ c.take.ensures.did (c.in-ok-byte.was ∙ ap Ok c.in-Some.is) c.follow.ensures.did c.in-err-follow.was ∙ c.loop-byte.invariant.1);
+  did = passed c.from_residual-in_err-follow.ensures.1 (drain_broke _ _ _ _ _ c.take.ensures.did (c.in_ok-byte.was ∙ ap Ok c.in-Some.is) c.follow.ensures.did c.in_err-follow.was ∙ c.loop-byte.invariant.1);
 }
 
 pub returns : goal.returns
 returns g c = record {
   became = g.met.P.Post.joins _ _ _ c.loop-byte.invariant.0 c.take.ensures.became;
-  did = drain_done _ _ _ _ _ c.take.ensures.did (c.in-ok-byte.was ∙ ap Ok c.in-default.is) ∙ c.loop-byte.invariant.1;
+  did = drain_done _ _ _ _ _ c.take.ensures.did (c.in_ok-byte.was ∙ ap Ok c.in_default.is) ∙ c.loop-byte.invariant.1;
 }

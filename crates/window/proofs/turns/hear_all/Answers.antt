@@ -7,15 +7,15 @@ loop-i-init g c = (g.met.P.Post.stays _, each_none _ _ _)
 
 pub loop-i-preserved : goal.loop-i-preserved
 loop-i-preserved g c = (
-  g.met.P.Post.joins _ _ _ c.loop-i.invariant.0 c.hear-office.ensures.became,
-  each_more _ _ _ c.loop-i-test.true c.hear-office.ensures.did c.in-ok-hear-office.was ∙ c.loop-i.invariant.1,
+  g.met.P.Post.joins _ _ _ c.loop-i.invariant.0 c.hear_office.ensures.became,
+  each_more _ _ _ c.loop-i-test.true c.hear_office.ensures.did c.in_ok-hear_office.was ∙ c.loop-i.invariant.1,
 )
 
 pub returns : goal.returns
 returns g c = record { became = c.loop-i.invariant.0; did = each_done _ _ _ _ c.loop-i-test.false ∙ c.loop-i.invariant.1 }
 
-pub returns-in-err-hear-office : goal.returns-in-err-hear-office
-returns-in-err-hear-office g c = record {
-  became = g.met.P.Post.joins _ _ _ c.loop-i.invariant.0 c.hear-office.ensures.became;
-  did = passed c.from-residual.ensures.1 (each_broke _ _ _ c.loop-i-test.true c.hear-office.ensures.did c.in-err-hear-office.was ∙ c.loop-i.invariant.1);
+pub returns-in_err-hear_office : goal.returns-in_err-hear_office
+returns-in_err-hear_office g c = record {
+  became = g.met.P.Post.joins _ _ _ c.loop-i.invariant.0 c.hear_office.ensures.became;
+  did = passed c.from_residual.ensures.1 (each_broke _ _ _ c.loop-i-test.true c.hear_office.ensures.did c.in_err-hear_office.was ∙ c.loop-i.invariant.1);
 }

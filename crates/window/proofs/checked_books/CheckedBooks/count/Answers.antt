@@ -4,15 +4,27 @@ use Rattle.window.proofs.Sound.{sound_count}
 use Rattle.window.proofs.checked_books.CheckedBooks.count.Goals as goal
 use Rattle.window.proofs.checked_books.CheckedBooks.count.Goals.{then-full, else-full}
 
-pub overflow-add-full : goal.overflow-add-full
-overflow-add-full c = omega (arith, c.args.self.now.left c.args.i c.requires)
+pub overflow_add-full : goal.overflow_add-full
+overflow_add-full c = omega (arith, c.args.self.now.left c.args.i c.requires)
 
-pub invariant-of-self : goal.invariant-of-self
-invariant-of-self c =
+pub invariant_of-self : goal.invariant_of-self
+invariant_of-self c =
     let d = c.args.self.now in
     let left = d.left c.args.i c.requires in
     let some = d.books.setting.grain _ (d.within c.args.i c.requires) in
     let less : c.if-full.remainder < slack d.books.setting (office d.books c.args.i).step = elim c.if-full.branch [ then-full w ↦ omega (arith, w.remainder-is) | else-full w ↦ omega (arith, w.remainder-is, w.if-full.false) ] in
     let s = sound_count d c.args.i c.requires _ less in
     let h = s.coordinator in
-    (s.tall, (h.from, (h.to, (h.few, (h.going, (h.over, (h.last, ((λ i l. (s.table i l).from), ((λ i l. (s.table i l).to), ((λ i l. (s.table i l).left), ((λ i l. (s.table i l).paid), tt)))))))))))
+    record {
+      tall = s.tall;
+      from = h.from;
+      to = h.to;
+      few = h.few;
+      going = h.going;
+      over = h.over;
+      last = h.last;
+      begun = λ i l. (s.table i l).from;
+      within = λ i l. (s.table i l).to;
+      left = λ i l. (s.table i l).left;
+      paid = λ i l. (s.table i l).paid;
+    }

@@ -4,24 +4,48 @@ use Rattle.window.specs.Parts.{signalled}
 use Rattle.window.proofs.Sound.{credit_fits, sound_next, sound_close}
 use Rattle.window.proofs.checked_books.CheckedBooks.finish_step.Goals as goal
 
-pub overflow-add-self : goal.overflow-add-self
-overflow-add-self c = omega (arith, credit_fits c.args.self.now c.args.i c.requires.within c.requires.going)
+pub overflow_add-self : goal.overflow_add-self
+overflow_add-self c = omega (arith, credit_fits c.args.self.now c.args.i c.requires.within c.requires.going)
 
-pub invariant-of-self : goal.invariant-of-self
-invariant-of-self c =
+pub invariant_of-self : goal.invariant_of-self
+invariant_of-self c =
     let s = sound_next c.args.self.now c.args.i c.requires.within (eqb-true _ _ c.requires.full) c.if-step-self.true in
     let h = s.coordinator in
-    (s.tall, (h.from, (h.to, (h.few, (h.going, (h.over, (h.last, ((λ i l. (s.table i l).from), ((λ i l. (s.table i l).to), ((λ i l. (s.table i l).left), ((λ i l. (s.table i l).paid), tt)))))))))))
+    record {
+      tall = s.tall;
+      from = h.from;
+      to = h.to;
+      few = h.few;
+      going = h.going;
+      over = h.over;
+      last = h.last;
+      begun = λ i l. (s.table i l).from;
+      within = λ i l. (s.table i l).to;
+      left = λ i l. (s.table i l).left;
+      paid = λ i l. (s.table i l).paid;
+    }
 
 pub returns-then-step-self : goal.returns-then-step-self
 unfolding signalled
 returns-then-step-self c = sym (cond-true _ _ _ c.requires.full ∙ cond-true _ _ _ (lt-ltb _ _ c.if-step-self.true))
 
-pub invariant-of-self-2 : goal.invariant-of-self-2
-invariant-of-self-2 c =
+pub invariant_of-self-2 : goal.invariant_of-self-2
+invariant_of-self-2 c =
     let s = sound_close c.args.self.now c.args.i c.requires.within (eqb-true _ _ c.requires.full) c.if-step-self.false in
     let h = s.coordinator in
-    (s.tall, (h.from, (h.to, (h.few, (h.going, (h.over, (h.last, ((λ i l. (s.table i l).from), ((λ i l. (s.table i l).to), ((λ i l. (s.table i l).left), ((λ i l. (s.table i l).paid), tt)))))))))))
+    record {
+      tall = s.tall;
+      from = h.from;
+      to = h.to;
+      few = h.few;
+      going = h.going;
+      over = h.over;
+      last = h.last;
+      begun = λ i l. (s.table i l).from;
+      within = λ i l. (s.table i l).to;
+      left = λ i l. (s.table i l).left;
+      paid = λ i l. (s.table i l).paid;
+    }
 
 pub returns : goal.returns
 unfolding signalled
