@@ -13,7 +13,7 @@ fn three_and_eight_lots_at_two_offices(rt: HostRuntime) -> Result<(), Fail> {
     let played = play(post, Halving::new(1, 3)?, &lots);
     assert_eq!(rt;
         played.window.post().sends(),
-        [(0, 33), (0, 33), (1, 66), (3, 66), (2, 34)]
+        [(0, 33), (0, 33), (1, 66), (3, 66), (2, 34)].as_slice()
     );
     Ok(())
 }
@@ -23,7 +23,7 @@ fn three_and_eight_lots_at_two_offices(rt: HostRuntime) -> Result<(), Fail> {
 fn two_lots_at_one_office(rt: HostRuntime) -> Result<(), Fail> {
     let post = RecordingPost::new(DirectPost::new(1)?);
     let played = play(post, Halving::new(1, 1)?, &[1, 1]);
-    assert_eq!(rt; played.window.post().sends(), [(0, 33), (1, 97)]);
+    assert_eq!(rt; played.window.post().sends(), [(0, 33), (1, 97)].as_slice());
     Ok(())
 }
 
@@ -52,6 +52,7 @@ fn several_signals_at_a_start(rt: HostRuntime) -> Result<(), Fail> {
             (3, 98),
             (5, 98),
         ]
+        .as_slice()
     );
     Ok(())
 }

@@ -37,7 +37,7 @@ fn refusal_of(answer: Result<usize, WriteError>) -> (u32, usize) {
 fn nine_lines(rt: HostRuntime) -> Result<(), Fail> {
     let report = report_of(rt.alloc(), Some(9))?;
     let text = report_text(rt.alloc(), &report)?;
-    assert_eq!(rt; text.as_slice(), TEXT);
+    assert_eq!(rt; text.as_slice(), TEXT.as_slice());
     Ok(())
 }
 

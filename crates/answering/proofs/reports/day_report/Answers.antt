@@ -7,10 +7,10 @@ use Rattle.answering.specs.Answers.{Reported}
 use Rattle.answering.proofs.InRange.{listed_refused}
 use Rattle.answering.proofs.reports.day_report.Goals as goal
 
-pub returns-in-err-new-2 : goal.returns-in-err-new-2
-returns-in-err-new-2 c =
+pub returns-in_err-new-in-Listed : goal.returns-in_err-new-in-Listed
+returns-in_err-new-in-Listed c =
     let x = terms_model c.args.terms.now in
     let y = day_model c.args.day.now in
-    let p = err_from_is_err_and c.from-residual-in-err-new-2.result c.from-residual-in-err-new-2.ensures.1 in
+    let p = err_from_is_err_and c.from_residual-in_err-new-in-Listed.result c.from_residual-in_err-new-in-Listed.ensures.1 in
     subst (Reported x y) (sym (p.1 ∙ ap Err p.2))
-    (listed_refused x y _ _ (ap ladder_model c.in-Listed.is) (c.in-err-new-2.ensures.fault ∙ ap (listed_fault x.grain) c.as-slice.ensures.value))
+    (listed_refused x y _ _ (ap ladder_model c.in-Listed.is) (c.in_err-new-in-Listed.ensures.fault ∙ ap (listed_fault x.grain) c.as_slice.ensures.value))

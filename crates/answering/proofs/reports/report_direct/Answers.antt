@@ -8,6 +8,6 @@ none_sent n ls e = subst Unused (sym e) (λ j less. ap (λ (l : Lane). l.sent) (
 
 pub returns : goal.returns
 returns g c =
-    let made = c.in-ok-post.ensures.post in
+    let made = c.in_ok-post.ensures.post in
     let day = c.play-played.ensures.day (none_sent (2 * c.args.offices) _ made.1) in
     search rules

@@ -8,9 +8,9 @@ use Rattle.playing.proofs.day.play.Goals as goal
 pub returns : goal.returns
 returns g c =
     let w = c.open.result in
-    let all = c.play-all.ensures in
+    let all = c.play_all.ensures in
     record {
-      became = subst (λ p. g.P.Post.became p c.play-all.new.self.window.post) c.open.ensures.post all.became;
+      became = subst (λ p. g.P.Post.became p c.play_all.new.self.window.post) c.open.ensures.post all.became;
       setting = all.setting ∙ c.open.ensures.setting;
       day = λ none. all.day (record {
         reached = c.open.ensures.reached none;

@@ -19,7 +19,7 @@ returns g c =
     let p = c.args.self.now in
     let w = c.lot-answer.new.self in
     let a = c.lot-answer.result in
-    let closed = c.is-closed-closed.result in
+    let closed = c.is_closed-closed.result in
     let n = c.args.office in
     let lot = c.lot-answer.ensures in
     let tally = c.note.ensures in
@@ -36,7 +36,7 @@ returns g c =
       day = λ lots rs d. (
         a,
         subst (λ t. DayAt g.P.Post.lanes (lots ++ n ∷ []) (rs ++ a ∷ []) (record { window = w; tally = t })) (sym tally)
-            (day_next g.P.Post.lanes lots rs n p w closed d same_setting c.is-closed-closed.ensures a (lot.reached lots rs d.reached)
+            (day_next g.P.Post.lanes lots rs n p w closed d same_setting c.is_closed-closed.ensures a (lot.reached lots rs d.reached)
             (λ is_ok. ap not (open_if_accepted p.window.used n p.window.checked.books a (λ f e. (lot.refused f e).0) is_ok))
             (λ f e. lot.same lots rs f d.reached e)),
       );
