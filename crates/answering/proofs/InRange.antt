@@ -1,26 +1,24 @@
 -- What texts can say is within the makers' ranges. Assumes nothing.
-use Rattle.std.proofs.Common.{◌≡◌, ℕ, ◌+◌, ◌*◌, ◌^◌, ◌<◌, ◌≤◌, Bool, true, false, cond, ◌&&◌, ◌||◌, eqb, leb, List, [], ◌∷◌, ◌++◌, length, IfOk, Some, None, Ok, Err, Result, sym, refl, ap, ◌∙◌, subst, mul_assoc, mul-le-mul, mul-le-mul_left, arith, length-append}
+use Rattle.std.proofs.Common.{◌≡◌, ℕ, ◌+◌, ◌*◌, ◌^◌, ◌≤◌, Bool, true, false, ◌&&◌, List, [], ◌∷◌, length, IfOk, Some, None, Ok, Err, Result, sym, refl, ap, ◌∙◌, subst, mul_assoc, mul-le-mul, mul-le-mul_left, arith, length-append}
 use Rattle.std.specs.List.{AllByRecursion as All}
 use Rattle.std.proofs.lemmas.Bool.{le-leb, cond-true}
 use Rattle.fault.specs.declared.Fault.{Fault}
-use Rattle.ladder.specs.Makers.{within, tested, halving_fault, divisors_fault, listed_fault}
+use Rattle.ladder.specs.Makers.{within, halving_fault, divisors_fault, listed_fault}
 use Rattle.ladder.specs.Slacks.{product}
 use Rattle.reader.specs.declared.byte_kind.ByteKind.TheVariants.{Mark}
 use Rattle.reader.specs.Bytes.{of_kind}
 use Rattle.reader.specs.declared.read_error.ReadError.{ReadError}
 use Rattle.reader.specs.declared.read_error.ReadError.TheVariants.{Faulty, NoMemory}
 use Rattle.report.specs.declared.Report.{Report}
-use Rattle.wire.specs.Marks.{is_mark}
-use Rattle.wire.specs.Makers.{bytes_fault, marks_fault, marked_fault}
-use Rattle.terms.specs.declared.model.PostChoice.{PostChoice}
-use Rattle.terms.specs.declared.model.PostChoice.TheVariants.{Direct, Bit}
-use Rattle.terms.specs.Models.{TermsModel, LadderModel, halving, listed}
-use Rattle.terms.specs.Written.{TermsInRange, LadderInRange}
+use Rattle.wire.specs.Makers.{bytes_fault, marked_fault}
+use Rattle.terms.specs.declared.model.PostChoice.TheVariants.{Bit}
+use Rattle.terms.specs.Models.{TermsModel, halving, listed}
+use Rattle.terms.specs.Written.{LadderInRange}
 use Rattle.day.specs.Models.{DayModel}
-use Rattle.day.specs.Written.{DayInRange, day_text}
+use Rattle.day.specs.Written.{day_text}
 use Rattle.texts.specs.Both.{Admissible, read_both}
-use Rattle.answering.specs.Reports.{LotsReport, FramesOf, FramesByMarks}
-use Rattle.answering.specs.Answers.{Playable, Reported, ReportPrinted, PrintedAs, Printed}
+use Rattle.answering.specs.Reports.{LotsReport, FramesOf}
+use Rattle.answering.specs.Answers.{Playable, ReportPrinted, PrintedAs, Printed}
 use Rattle.answering.specs.Playing.{BitReported, ReportedOn}
 use Rattle.window.specs.Windows.{setting_for}
 use Rattle.report.specs.Models.{report_model}

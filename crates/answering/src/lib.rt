@@ -1,4 +1,6 @@
 // What the program prints of two texts: the report of the day that they say, or their first fault.
+#![tactic(auto)]
+
 mod answers;
 mod figures;
 mod reports;

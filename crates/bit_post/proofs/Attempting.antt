@@ -1,11 +1,11 @@
 -- One attempt, turn by turn.
-use Rattle.std.proofs.Common.{◌≡◌, ℕ, zero, suc, ◌+◌, ◌*◌, ◌%◌, ◌<◌, ◌≤◌, Bool, true, false, cond, not, ◌||◌, eqb, leb, ◌⊎◌, List, [], ◌∷◌, ◌++◌, length, replicate, Some, None, sym, refl, ap, ◌∙◌, inl, inr, append_assoc, arith}
+use Rattle.std.proofs.Common.{◌≡◌, ℕ, zero, suc, ◌+◌, ◌<◌, ◌≤◌, Bool, true, false, cond, not, ◌||◌, List, [], ◌∷◌, ◌++◌, length, replicate, Some, sym, refl, ap, ◌∙◌, inl, inr, append_assoc, arith}
 use Rattle.std.proofs.lemmas.List.{length_push}
 use Rattle.std.proofs.lemmas.Bool.{le-leb, lt-leb, eq-eqb}
 use Rattle.post.specs.Lanes.{Lane, joined}
-use Rattle.wire.specs.Wires.{WireLane, Outcome, once, lost, twice, arrivals, copies, cost, costs, wire_lane, no_frames, Others, Taken, Placed, PlacedBy, PlacesAfter}
+use Rattle.wire.specs.Wires.{WireLane, Outcome, once, lost, twice, arrivals, copies, cost, costs, wire_lane, no_frames, Others, Taken, PlacedBy, PlacesAfter}
 use Rattle.bit_post.specs.Frames.{data_frame, acknowledgement, bit_of, byte_of}
-use Rattle.bit_post.specs.Sends.{Attempt, attempt, any_arrives}
+use Rattle.bit_post.specs.Sends.{attempt, any_arrives}
 use Rattle.bit_post.specs.Sending.{among, waiting_after, same_bit, delivered, MaySend, FarState, Answering, Tried, FarAfter}
 
 -- a frame reads back

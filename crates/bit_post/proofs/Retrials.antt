@@ -1,11 +1,11 @@
 -- One send, attempt by attempt.
-use Rattle.std.proofs.Common.{◌≡◌, ℕ, ◌+◌, ◌*◌, ◌<◌, ◌≤◌, Bool, true, false, cond, not, ◌⊎◌, List, [], ◌∷◌, ◌++◌, length, sym, refl, ap, ◌∙◌, subst, inl, inr, arith, length-append}
+use Rattle.std.proofs.Common.{◌≡◌, ℕ, ◌≤◌, Bool, true, false, cond, not, List, ◌++◌, sym, refl, ap, ◌∙◌, subst, inl, inr, arith, length-append}
 use Rattle.post.specs.Lanes.{Lane, joined}
-use Rattle.wire.specs.Wires.{WireLane, Outcome, costs, wire_lane, no_frames}
+use Rattle.wire.specs.Wires.{WireLane, Outcome, wire_lane, no_frames}
 use Rattle.bit_post.specs.Sends.{Attempt, done}
-use Rattle.bit_post.specs.Sending.{same_bit, delivered, MaySend, start, fail, Tried, FarAfter, Delivery, Retrying, Sent}
+use Rattle.bit_post.specs.Sending.{same_bit, delivered, MaySend, fail, Tried, FarAfter, Delivery, Retrying, Sent}
 use Rattle.bit_post.proofs.Attempting.{same_bit_not, not_self}
-use Rattle.bit_post.specs.Running.{costs_append, attempt_fails, failing_few, send_between, finish}
+use Rattle.bit_post.specs.Running.{costs_append, send_between, finish}
 
 same_bit_self : (s : Bool) → same_bit s s ≡ true
 same_bit_self true = refl

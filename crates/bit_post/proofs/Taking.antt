@@ -1,5 +1,5 @@
 -- A take from a lane, by how many bytes wait on it.
-use Rattle.std.proofs.Common.{◌≡◌, ℕ, ◌<◌, Bool, true, false, cond, leb, List, [], ◌∷◌, length, is_err, Some, None, Ok, Err, Option, Result, sym, refl, ap, ◌∙◌, arith}
+use Rattle.std.proofs.Common.{◌≡◌, ℕ, ◌<◌, Bool, true, false, cond, leb, List, [], ◌∷◌, length, is_err, None, Ok, Err, Option, Result, refl, ap, arith}
 use Rattle.fault.specs.declared.Fault.{Fault}
 use Rattle.fault.specs.declared.Refusal.TheVariants.{NoSuchOfficeOrLane}
 use Rattle.post.specs.Lanes.{Lane, lane, lane_fault, take, taken, waiting_answer}

@@ -1,7 +1,7 @@
 -- How a post over a wire goes on from call to call.
-use Rattle.std.specs.Prelude.{◌≡◌, ℕ, ◌+◌, ◌*◌, ◌≤◌, List, [], ◌++◌, length, refl}
-use Rattle.std.proofs.Common.{sym, ap, ◌∙◌, arith, length-append}
-use Rattle.wire.specs.Wires.{Outcome, costs}
+use Rattle.std.specs.Prelude.{◌≡◌, ℕ, ◌+◌, List, [], ◌++◌}
+use Rattle.std.proofs.Common.{ap, ◌∙◌, arith, length-append}
+use Rattle.wire.specs.Wires.{Outcome}
 use Rattle.bit_post.specs.Became.{Counts, Became, FramesWithin}
 use Rattle.bit_post.specs.Sending.{Sent}
 use Rattle.bit_post.specs.Sends.{none}

@@ -1,8 +1,8 @@
 -- How many puts sends make, and how lists of outcomes join.
-use Rattle.std.specs.Prelude.{◌≡◌, ℕ, zero, suc, ◌+◌, ◌*◌, ◌<◌, ◌≤◌, Bool, true, false, ◌||◌, List, [], ◌∷◌, ◌++◌, length, refl}
-use Rattle.std.proofs.Common.{sym, ap, subst, ◌∙◌, append_assoc, arith, length-append}
+use Rattle.std.specs.Prelude.{◌≡◌, ℕ, suc, ◌+◌, ◌*◌, ◌≤◌, Bool, true, false, List, [], ◌∷◌, ◌++◌, length, refl}
+use Rattle.std.proofs.Common.{sym, subst, ◌∙◌, append_assoc, arith, length-append}
 use Rattle.std.proofs.lemmas.List.{append-nil}
-use Rattle.wire.specs.Wires.{Outcome, once, lost, twice, arrivals, cost, costs}
+use Rattle.wire.specs.Wires.{Outcome, once, lost, twice, arrivals, costs}
 use Rattle.bit_post.specs.Sends.{Attempt, attempt, Send, done, again, Sends, none, more, any_arrives, PutsWithin}
 use Rattle.bit_post.specs.Sending.{Failing, start, fail}
 

@@ -1,4 +1,6 @@
 // The post that carries each byte over a wire by the alternating bit protocol (Bartlett, Scantlebury and Wilkinson, 1969).
+#![tactic(auto)]
+
 ghost use Rattle.std.specs.Prelude.{◌≡◌, ◌*◌, ◌≤◌, length};
 ghost use Rattle.post.specs.Lanes.{all_sent};
 ghost use Rattle.post.specs.Tables.{slots_shown};

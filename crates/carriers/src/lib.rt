@@ -1,4 +1,5 @@
 // Posts and wires together: worked sends, recorded frame by frame, and both posts at their limits.
+#![tactic(auto)]
 
 ghost use Rattle.std.proofs.Common.{rules};
 

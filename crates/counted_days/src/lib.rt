@@ -1,3 +1,5 @@
+#![tactic(auto)]
+
 // Tests of days counted through windows: messages byte by byte, worked days over every post, wrong readings of the rules, refusals, sizes, and orders of lots; and of reports.
 #[cfg(test)]
 mod figures;

@@ -1,21 +1,20 @@
 -- A day is read from a text exactly where it is its own.
-use Rattle.std.proofs.Common.{◌≡◌, ℕ, zero, suc, ◌+◌, ◌<◌, ◌≤◌, Bool, true, false, cond, not, ◌&&◌, eqb, ltb, leb, List, [], ◌∷◌, ◌++◌, length, take, drop, Ok, Err, decimal, Result, sym, refl, ap, ◌∙◌, subst, ⊎_elim, append_assoc, arith, length-append, length-drop}
+use Rattle.std.proofs.Common.{◌≡◌, ℕ, ◌+◌, ◌<◌, ◌≤◌, true, false, not, ◌&&◌, eqb, ltb, leb, List, [], ◌∷◌, ◌++◌, length, drop, Ok, decimal, sym, refl, ap, ◌∙◌, subst, ⊎_elim, append_assoc, arith, length-append, length-drop}
 use Rattle.std.specs.Char.{is_ascii_digit}
 use Rattle.std.specs.List.{AllByRecursion as All}
 use Rattle.std.specs.Str.{all_ascii_digits}
 use Rattle.std.proofs.lemmas.Fmt.{decimal_nonempty, digits_decimal}
 use Rattle.std.proofs.lemmas.Bool.{cond-true, cond-false, cases_Bool, and_parts, and_from, and_right, leb-true, le-leb, ne_eqb}
 use Rattle.std.proofs.lemmas.Bool.Decides.{nat_tests}
-use Rattle.fault.specs.declared.Fault.{Fault}
 use Rattle.fault.specs.declared.Layer.{Layer}
 use Rattle.fault.specs.declared.Layer.TheVariants.{Day as InDay}
 use Rattle.fault.specs.declared.Refusal.TheVariants.{NoSuchOfficeOrLane}
 use Rattle.reader.specs.declared.byte_kind.ByteKind.TheVariants.{Digit, Mark}
 use Rattle.reader.specs.Bytes.{of_kind, run, line_end}
-use Rattle.reader.specs.Readings.{Reading, bind, whole, end_text, number_in, line_of}
+use Rattle.reader.specs.Readings.{Reading, end_text, number_in, line_of}
 use Rattle.reader.proofs.Exact.{bind_inv, bind_on, ok_same, cond_inv_not, past, run_cut, run_made, run_all, number_sound, number_full, line_sound, line_full, end_text_sound, end_text_full}
 use Rattle.reader.proofs.Scan.{own}
-use Rattle.day.specs.DayText.{marks, some_lots, lots, day, read_day}
+use Rattle.day.specs.DayText.{marks, lots, day, read_day}
 use Rattle.day.specs.Models.{DayModel}
 use Rattle.reader.specs.Words.{marks_key, lots_key, comma}
 use Rattle.reader.specs.Lists.{commas}

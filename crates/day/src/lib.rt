@@ -1,4 +1,6 @@
 // A day: the marks of its wire and the lots in their order, and how its text is read.
+#![tactic(auto)]
+
 mod day_text;
 mod model;
 

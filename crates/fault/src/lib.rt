@@ -1,4 +1,6 @@
 // What is wrong with a text or a call: the layer that refuses, the refusal, and the place.
+#![tactic(auto)]
+
 ghost use Rattle.std.specs.Prelude.{◌≡◌};
 ghost use Rattle.fault.specs.Faults.{refusal_number, layer_name};
 

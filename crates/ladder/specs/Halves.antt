@@ -3,7 +3,7 @@ use Rattle.std.specs.Prelude.{◌≡◌, ℕ, suc, ◌+◌, ◌-◌, ◌*◌, �
 use Rattle.std.proofs.Common.{ap, sym, ◌∙◌, mul_left_comm, mul-le-mul_left, mod-eq_of_lt, arith, pow_mono}
 use Rattle.std.proofs.Math.Nat.{pow-succ'}
 use Rattle.std.proofs.lemmas.Bool.{cond-true, le-leb}
-use Rattle.ladder.specs.Laws.{LadderLaw, Tied, slack_answer}
+use Rattle.ladder.specs.Laws.{LadderLaw, slack_answer}
 use Rattle.ladder.specs.Slacks.{halving_slack}
 
 doubles : (g e j : ℕ) → j < e → halving_slack g e j ≡ 2 * halving_slack g e (j + 1)

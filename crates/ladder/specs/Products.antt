@@ -1,12 +1,12 @@
 -- Products of listed divisors: they make a lawful ladder, and none passes the top.
-use Rattle.std.specs.Prelude.{◌≡◌, ℕ, zero, suc, ◌+◌, ◌-◌, ◌*◌, ◌<◌, ◌≤◌, List, [], ◌∷◌, length, take, drop, Ok, nat_le, slice_index}
+use Rattle.std.specs.Prelude.{◌≡◌, ℕ, zero, suc, ◌+◌, ◌*◌, ◌<◌, ◌≤◌, List, [], ◌∷◌, length, take, drop, Ok, nat_le, slice_index}
 use Rattle.std.proofs.Common.{ap, sym, subst, ◌∙◌, ⊎_elim, mul_left_comm, mul_assoc, mul-le-mul_left, mul-le-mul_right, arith}
 use Rattle.std.proofs.Math.Nat.{one-le-mul}
 use Rattle.std.specs.List.{between}
 use Rattle.std.proofs.lemmas.List.{get_or_past, get_or-drop, length-drop, length-take, at_drop_more, at_drop_all}
 use Rattle.std.proofs.lemmas.Slice.{between_is}
 use Rattle.std.proofs.lemmas.Bool.{cases_lt, cond-true, le-leb}
-use Rattle.ladder.specs.Laws.{LadderLaw, Tied, slack_answer}
+use Rattle.ladder.specs.Laws.{LadderLaw, slack_answer}
 use Rattle.ladder.specs.Slacks.{product, listed_slack}
 
 -- every number of the list is at least 1

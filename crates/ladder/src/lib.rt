@@ -1,4 +1,6 @@
 // A ladder: steps that lead from a coarse slack down to the grain, and two kinds of it.
+#![tactic(auto)]
+
 ghost use Rattle.std.specs.Prelude.{◌≡◌, ℕ};
 ghost use Rattle.ladder.specs.Laws.{LadderLaw, slack_answer};
 

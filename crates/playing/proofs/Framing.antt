@@ -1,8 +1,8 @@
 -- From how a post over a wire went on to the frames of its messages. Assumes nothing.
-use Rattle.std.proofs.Common.{◌≡◌, ℕ, zero, suc, ◌+◌, ◌-◌, ◌*◌, ◌<◌, ◌≤◌, List, [], ◌∷◌, length, replicate, sym, refl, ap, ◌∙◌, subst, arith}
+use Rattle.std.proofs.Common.{◌≡◌, ℕ, zero, suc, ◌*◌, ◌≤◌, List, replicate, sym, refl, ap, ◌∙◌, subst, arith}
 use Rattle.std.proofs.lemmas.List.{length-replicate, get_or-replicate}
 use Rattle.std.proofs.lemmas.List.Sums.{sum_by-cons}
-use Rattle.post.specs.Lanes.{Lane, lane, no_lane, all_sent, Unused}
+use Rattle.post.specs.Lanes.{Lane, no_lane, all_sent, Unused}
 use Rattle.post.specs.Tables.{used, slots_shown}
 use Rattle.post.specs.declared.lane_table.LaneTable.{LaneTable}
 use Rattle.post.specs.Shown.{part_new}

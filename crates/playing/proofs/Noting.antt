@@ -1,7 +1,7 @@
 -- One lot more of a day: what is counted stays what the answers say. Assumes nothing.
-use Rattle.std.proofs.Common.{◌≡◌, ℕ, suc, ◌+◌, ◌-◌, ◌<◌, ◌≤◌, Bool, true, false, cond, not, ◌||◌, eqb, ltb, List, [], ◌∷◌, ◌++◌, length, take, is_ok, Some, None, Ok, Err, Option, Result, sym, refl, ap, ◌∙◌, subst, ⊎_elim, arith}
+use Rattle.std.proofs.Common.{◌≡◌, ℕ, suc, ◌+◌, ◌-◌, ◌≤◌, Bool, true, false, cond, not, ◌||◌, eqb, ltb, List, [], ◌∷◌, ◌++◌, length, take, is_ok, Some, None, Ok, Err, Option, sym, refl, ap, ◌∙◌, subst, ⊎_elim, arith}
 use Rattle.std.proofs.lemmas.List.{take-append-le, take_all, length_push}
-use Rattle.std.proofs.lemmas.Bool.{cases_Bool, true≢false, false≢true, cond-true, cond-false}
+use Rattle.std.proofs.lemmas.Bool.{cases_Bool, true≢false, cond-true}
 use Rattle.fault.specs.Faults.{refusal_number}
 use Rattle.fault.specs.declared.Fault.{Fault}
 use Rattle.post.specs.Lanes.{Lane}
@@ -14,7 +14,7 @@ use Rattle.window.specs.Turns.{admitted}
 use Rattle.window.specs.Windows.{setting_of, books_of, Reached}
 use Rattle.playing.specs.declared.day.Played.{Played}
 use Rattle.playing.specs.declared.tally.Tally.{Tally}
-use Rattle.playing.specs.Tallies.{late, late_in_all, noted}
+use Rattle.playing.specs.Tallies.{late, noted}
 use Rattle.playing.specs.Days.{ClosingLot, ClosedBy, DayAt}
 
 total_push : {X : Type 0} (f : X → ℕ) (xs : List X) (x : X) → total f (xs ++ x ∷ []) ≡ total f xs + f x

@@ -1,7 +1,6 @@
 -- What is counted of a day beside the books, from what each lot was answered. Assumes nothing.
-use Rattle.std.specs.Prelude.{ℕ, ◌+◌, Bool, cond, List, Some, None, Ok, Err, Option, Result, ◌==◌}
+use Rattle.std.specs.Prelude.{ℕ, ◌+◌, Bool, cond, List, Some, None, Ok, Err, ◌==◌}
 use Rattle.fault.specs.Faults.{refusal_number}
-use Rattle.fault.specs.declared.Fault.{Fault}
 use Rattle.fault.specs.declared.Refusal.TheVariants.{WindowClosed}
 use Rattle.rules.specs.Lists.{total}
 use Rattle.rules.specs.Runs.{Answer}

@@ -1,4 +1,6 @@
 // A day of lots played through a window, over any post; over the alternating bit with what the wire did.
+#![tactic(auto)]
+
 mod day;
 mod over_wire;
 mod tally;

@@ -1,4 +1,6 @@
 // A post: offices that send bytes to a coordinator and hear from it, and a post that delivers at once.
+#![tactic(auto)]
+
 ghost use Rattle.std.specs.Prelude.{◌≡◌, ℕ, true, List, is_err, None, Ok};
 ghost use Rattle.post.specs.Lanes.{Lane, PostLaw, send as send_lane, take as take_lane, sent_answer, waiting_answer};
 ghost use Rattle.post.specs.Outs.{out};

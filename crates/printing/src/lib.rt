@@ -1,4 +1,6 @@
 // What is printed of two texts: what they say, or their first fault with the line that it lies in.
+#![tactic(auto)]
+
 mod answers;
 mod lines;
 mod writer;

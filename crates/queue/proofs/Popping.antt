@@ -1,6 +1,6 @@
 -- A queue's first item taken off, by a move of each other one place down.
 use Rattle.std.proofs.Common.{◌≡◌, ℕ, zero, suc, ◌+◌, ◌-◌, ◌<◌, ◌≤◌, List, [], ◌∷◌, ◌++◌, length, get_or, take, drop, set, Some, sym, refl, ap, ◌∙◌, arith, length-drop}
-use Rattle.std.proofs.lemmas.List.{take_more, take_more_set, get_or-drop, get_or_read, take-take}
+use Rattle.std.proofs.lemmas.List.{take_more, take_more_set, get_or-drop, take-take}
 use Rattle.queue.specs.Queues.{first, rest}
 
 module _ {T : Type 0} (old : List T) where

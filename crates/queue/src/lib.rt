@@ -1,4 +1,6 @@
 // A queue of at most sixteen items, in a table of its own: it needs no memory from elsewhere.
+#![tactic(auto)]
+
 ghost use Rattle.std.specs.Prelude.{◌≡◌, ◌≤◌, length};
 
 use std::alloc::AllocError;

@@ -1,12 +1,11 @@
 -- Numbers with commas between are read exactly where they are written.
-use Rattle.std.proofs.Common.{◌≡◌, ℕ, zero, suc, ◌+◌, ◌<◌, ◌≤◌, true, false, cond, List, [], ◌∷◌, ◌++◌, length, take, drop, Ok, Err, decimal, Result, sym, refl, ap, ◌∙◌, subst, ⊎_elim, append_assoc, arith}
+use Rattle.std.proofs.Common.{◌≡◌, ℕ, zero, suc, ◌+◌, ◌<◌, ◌≤◌, List, [], ◌∷◌, ◌++◌, length, take, drop, Ok, decimal, sym, refl, ap, ◌∙◌, ⊎_elim, append_assoc, arith}
 use Rattle.std.specs.Str.{bytes_eq}
 use Rattle.std.proofs.lemmas.Bool.{cond-true, cond-false, cases_Bool}
-use Rattle.fault.specs.declared.Fault.{Fault}
 use Rattle.fault.specs.declared.Layer.{Layer}
 use Rattle.reader.specs.declared.byte_kind.ByteKind.TheVariants.{Digit}
 use Rattle.reader.specs.Bytes.{run}
-use Rattle.reader.specs.Readings.{Reading, bind, begins_at}
+use Rattle.reader.specs.Readings.{Reading, begins_at}
 use Rattle.reader.proofs.Exact.{bind_inv, ok_same, cond_inv_not, past, begins_sound, begins_full}
 use Rattle.reader.specs.Words.{comma}
 use Rattle.reader.specs.Lists.{numbers, commas}

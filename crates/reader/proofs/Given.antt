@@ -1,5 +1,5 @@
 -- What a call that may want memory gives, with and without the reader's place.
-use Rattle.std.proofs.Common.{◌≡◌, ℕ, Ok, Err, Result, ap, ◌∙◌}
+use Rattle.std.proofs.Common.{◌≡◌, ℕ, Ok, Err, Result, ap}
 use Rattle.fault.specs.declared.Fault.{Fault}
 use Rattle.reader.specs.Readings.{whole}
 use Rattle.reader.specs.declared.read_error.ReadError.{ReadError}

@@ -1,5 +1,5 @@
 -- A reader that only moved: its text and layer are those that it had.
-use Rattle.std.proofs.Common.{◌≡◌, ℕ, Bool, List, sym, refl, ap, ◌∙◌, Bor}
+use Rattle.std.proofs.Common.{◌≡◌, ℕ, List, ap, ◌∙◌, Bor}
 use Rattle.fault.specs.declared.Layer.{Layer}
 use Rattle.reader.specs.declared.Reader.{Reader}
 use Rattle.reader.specs.Readings.{Reading, begins_at}

@@ -1,7 +1,6 @@
 -- What a call on a reader does: the answer of a reading, and where the reader stands after it. Assumes nothing.
 use Rattle.std.specs.Prelude.{◌≡◌, ℕ, List, Ok, Err, Result}
 use Rattle.fault.specs.declared.Fault.{Fault}
-use Rattle.fault.specs.declared.Layer.{Layer}
 use Rattle.reader.specs.declared.Reader.{Reader}
 use Rattle.reader.specs.Readings.{Reading}
 

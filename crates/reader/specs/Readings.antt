@@ -6,7 +6,6 @@ use Rattle.fault.specs.declared.Layer.{Layer}
 use Rattle.fault.specs.declared.Refusal.{Refusal}
 use Rattle.fault.specs.declared.Refusal.TheVariants.{NotAsExpected, NotANumber, BytesAfterEnd}
 use Rattle.fault.specs.Faults.{fault}
-use Rattle.reader.specs.declared.byte_kind.ByteKind.{ByteKind}
 use Rattle.reader.specs.declared.byte_kind.ByteKind.TheVariants.{Digit}
 use Rattle.reader.specs.Bytes.{run, line_end}
 

@@ -1,4 +1,6 @@
 // A reader over one text: it stands at a place, and moves only past what it accepts.
+#![tactic(auto)]
+
 ghost use Rattle.std.specs.Prelude.{◌≤◌, length};
 
 use fault::Layer;

@@ -1,4 +1,6 @@
 // The report of a day: its numbers, its text, and the text in a buffer that a caller lends.
+#![tactic(auto)]
+
 use bit_post::FrameCount;
 use post::MessageCount;
 

@@ -1,17 +1,16 @@
 -- What the invariant says, in the subject's words.
-use Rattle.std.proofs.Common.{◌≡◌, ℕ, zero, suc, ◌+◌, ◌-◌, ◌*◌, ◌/◌, ◌%◌, ◌<◌, ◌≤◌, Bool, true, false, cond, ◌&&◌, ◌||◌, ◌⊎◌, List, [], ◌∷◌, ◌++◌, map, length, get_or, replicate, sym, refl, ap, ◌∙◌, subst, inl, inr, ⊎_elim, mul-le-mul_right, mul-le-mul, mul-le-mul_left, mul-div_cancel, arith}
+use Rattle.std.proofs.Common.{◌≡◌, ℕ, zero, suc, ◌+◌, ◌-◌, ◌*◌, ◌/◌, ◌%◌, ◌<◌, ◌≤◌, Bool, true, false, ◌⊎◌, List, map, length, get_or, sym, refl, ap, ◌∙◌, subst, inl, inr, ⊎_elim, mul-le-mul_right, mul-le-mul_left, mul-div_cancel, arith}
 use native.Mathlib.Nat.{eq_of_mul-eq-mul_left}
 use Rattle.std.proofs.lemmas.Nat.{div-mul-add, mod-mul-add, div_below}
-use Rattle.std.proofs.lemmas.Bool.{cases_lt, cases_order, true≢false, false≢true}
+use Rattle.std.proofs.lemmas.Bool.{cases_order}
 use Rattle.std.proofs.lemmas.List.{ext_get_or}
 use lib.ListN.{get_or-map}
 use Rattle.rules.proofs.Fit.{Fit, credits, downs, more, none, ups}
 use Rattle.rules.proofs.Lot.{Good, Inv, Phase, fit_whole, quota_slack, rung, slack_pos}
 use Rattle.rules.proofs.Machine.{Sound, count, counts, ended, whole}
 use Rattle.rules.proofs.Run.{count_at, good, total_counts}
-use Rattle.rules.proofs.Step.{below}
 use Rattle.rules.specs.Laws.{ClosesAtCeiling, FirstShort, FollowsFromLots, OrderDoesNotMatter, divisors_to, whole_lots}
-use Rattle.rules.specs.Lists.{at, total}
+use Rattle.rules.specs.Lists.{total}
 use Rattle.rules.specs.Rules.{Account, Office, Setting, State, coordinator_at, divisor, no_account, no_office, state}
 use Rattle.rules.specs.Runs.{books, messages, waits}
 

@@ -1,9 +1,9 @@
 -- No part of a turn takes a message that it does not expect. Assumes nothing.
-use Rattle.std.proofs.Common.{◌≡◌, ℕ, zero, suc, ◌+◌, ◌*◌, ◌<◌, true, List, [], ◌∷◌, map, length, replicate, sym, refl, ap, ◌∙◌, subst, inl, inr, arith}
+use Rattle.std.proofs.Common.{◌≡◌, ℕ, zero, suc, ◌+◌, ◌<◌, true, List, map, replicate, sym, refl, ap, ◌∙◌, subst, inl, inr, arith}
 use Rattle.rules.specs.Expected.{ExpectedUp, ExpectedUps, ExpectedDowns, ExpectedTurn}
 use Rattle.rules.specs.Lists.{at}
-use Rattle.rules.specs.Rules.{Account, Coordinator, Hearing, Office, Setting, State, account, close, coordinator_at, hear, hearing, quota, send, signal, start, state, take_downs, take_ups, told, turn}
-use Rattle.rules.proofs.Fit.{Fit, none, more, A-quiet, take_downs_quiet, turn_quiet}
+use Rattle.rules.specs.Rules.{Account, Coordinator, Hearing, Office, Setting, State, account, close, coordinator_at, hearing, quota, send, signal, start, state, take_downs, take_ups, told, turn}
+use Rattle.rules.proofs.Fit.{Fit, none, more, A-quiet}
 use Rattle.rules.proofs.Move.{Moved, end, and, hear_on, hears}
 
 -- where nothing waits

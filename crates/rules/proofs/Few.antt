@@ -1,6 +1,5 @@
 -- Few messages are sent in all.
-use Rattle.std.proofs.Common.{◌≡◌, ℕ, zero, suc, ◌+◌, ◌-◌, ◌*◌, ◌<◌, ◌≤◌, Bool, true, false, cond, ◌||◌, eqb, ltb, List, [], ◌∷◌, sym, refl, ap, ◌∙◌, subst, ⊎_elim, mul-le-mul, mul-le-mul_left, arith}
-use Rattle.std.proofs.lemmas.Bool.{or_parts, eqb-false, ltb-false}
+use Rattle.std.proofs.Common.{ℕ, zero, suc, ◌*◌, ◌≤◌, Bool, true, false, List, ap, mul-le-mul, arith}
 use Rattle.rules.proofs.Lot.{Good, Phase, divisors_step, quota_k}
 use Rattle.rules.proofs.Machine.{Sound, counts, ended}
 use Rattle.rules.proofs.Run.{good}

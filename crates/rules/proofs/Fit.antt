@@ -1,5 +1,5 @@
 -- The accounts, the offices and the counts between lots, and what a turn does to them.
-use Rattle.std.proofs.Common.{◌≡◌, ℕ, zero, suc, ◌+◌, ◌-◌, ◌*◌, ◌/◌, ◌%◌, ◌<◌, ◌≤◌, Bool, true, false, cond, ◌&&◌, ◌||◌, eqb, ltb, List, [], ◌∷◌, ◌++◌, map, length, get_or, replicate, sym, refl, ap, ◌∙◌, subst, add-zero, mul_comm, zero-add, arith, le-ltb, lt-ltb, eq-eqb, ne_eqb}
+use Rattle.std.proofs.Common.{◌≡◌, ℕ, zero, suc, ◌+◌, ◌*◌, ◌<◌, ◌≤◌, List, [], ◌∷◌, length, get_or, refl, ap, ◌∙◌, arith}
 use Rattle.rules.specs.Lists.{at, total}
 use Rattle.rules.specs.Rules.{Account, Coordinator, Office, Setting, State, account, accounts_after, hear, hearing, lane_of, no_office, office, offices_after, send, state, take_downs, take_ups, turn}
 

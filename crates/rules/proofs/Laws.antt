@@ -1,16 +1,13 @@
 -- The laws of runs, from what the proofs compute. Assumes nothing.
-use Rattle.std.proofs.Common.{◌≡◌, ℕ, zero, suc, ◌+◌, ◌-◌, ◌*◌, ◌/◌, ◌<◌, ◌≤◌, Bool, true, false, cond, ◌&&◌, ◌||◌, eqb, ltb, List, [], ◌∷◌, is_ok, Ok, Err, sym, refl, ap, ◌∙◌, subst, ⊎_elim, mul-pos, arith}
+use Rattle.std.proofs.Common.{◌≡◌, ℕ, zero, suc, ◌+◌, ◌-◌, ◌*◌, ◌<◌, ◌≤◌, Bool, true, false, cond, ◌&&◌, ◌||◌, eqb, ltb, List, [], ◌∷◌, is_ok, Err, sym, refl, ap, ◌∙◌, subst, ⊎_elim, mul-pos, arith}
 use native.Mathlib.Nat.{div-eq_of_eq-mul_left}
 use Rattle.std.proofs.lemmas.Bool.{cases_eq, eq-eqb, ne_eqb, eqb-false, ltb-false, or_parts, true≢false}
 use Rattle.fault.specs.declared.Fault.{Fault}
-use Rattle.ladder.specs.Laws.{LadderLaw, Tied}
 use Rattle.rules.proofs.Claims.{closing, nothing_waits, same_lots, standing}
-use Rattle.rules.proofs.Lot.{rung}
 use Rattle.rules.proofs.Machine.{Sound, accepted_of, answers, count, ended, lot}
-use Rattle.rules.proofs.Settle.{runs, runs_opened, runs_unique}
-use Rattle.rules.proofs.Step.{below}
-use Rattle.rules.specs.Laws.{ClosesAtCeiling, EveryListHasOneRun, EveryRunIsLawful, FollowsFromLots, OrderDoesNotMatter, OrderNeverMatters, RunLaws, SettingLaw, grain}
-use Rattle.rules.specs.Lists.{at, sum_to}
+use Rattle.rules.proofs.Settle.{runs_opened, runs_unique}
+use Rattle.rules.specs.Laws.{ClosesAtCeiling, EveryListHasOneRun, EveryRunIsLawful, FollowsFromLots, OrderDoesNotMatter, OrderNeverMatters, RunLaws, SettingLaw}
+use Rattle.rules.specs.Lists.{sum_to}
 use Rattle.rules.specs.Rules.{Setting, State, answer, divisor, opened}
 use Rattle.rules.specs.Runs.{Answer, Runs, accepted_at, accepted_in_all, books}
 

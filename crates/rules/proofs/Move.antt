@@ -1,10 +1,10 @@
 -- What the coordinator hears, and what a start and a close do.
-use Rattle.std.proofs.Common.{◌≡◌, ℕ, zero, suc, ◌+◌, ◌-◌, ◌*◌, ◌/◌, ◌%◌, ◌<◌, ◌≤◌, Bool, true, false, cond, ◌&&◌, ◌||◌, eqb, ltb, List, [], ◌∷◌, ◌++◌, map, length, get_or, replicate, sym, refl, ap, ◌∙◌, subst, mod-lt, mul-le-mul_left, div-add-mod', arith, le-ltb, lt-ltb, eq-eqb, ne_eqb}
+use Rattle.std.proofs.Common.{◌≡◌, ℕ, zero, suc, ◌+◌, ◌-◌, ◌*◌, ◌/◌, ◌%◌, ◌<◌, ◌≤◌, true, false, List, [], ◌∷◌, map, length, get_or, replicate, sym, refl, ap, ◌∙◌, mod-lt, div-add-mod', arith, le-ltb, lt-ltb, eq-eqb}
 use Rattle.std.proofs.lemmas.Nat.{div_below}
 use lib.ListN.{length-replicate}
 use Rattle.rules.proofs.Fit.{Fit, credits, downs, more, none, ups}
 use Rattle.rules.specs.Lists.{fold, total}
-use Rattle.rules.specs.Rules.{Account, Office, Setting, State, account, accounts_after, close, coordinator_at, divisor, hear, hearing, lane_of, no_account, no_office, office, offices_after, quota, signal, start, started, state, take_ups, told}
+use Rattle.rules.specs.Rules.{Account, Office, Setting, State, account, accounts_after, close, coordinator_at, divisor, hear, hearing, lane_of, no_account, no_office, office, offices_after, quota, signal, start, state, take_ups, told}
 
 pub hear_on : (l : Setting) (j s c : ℕ) (to : List Office) → s + 1 < quota l j →
     hear l (hearing (coordinator_at j s true) c to) (signal j) ≡ hearing (coordinator_at j (s + 1) true) (c + l.slack j) to

@@ -1,6 +1,6 @@
 -- The invariant over a run, and the counts.
-use Rattle.std.proofs.Common.{◌≡◌, ℕ, zero, suc, ◌+◌, ◌-◌, ◌*◌, ◌/◌, ◌%◌, ◌<◌, ◌≤◌, Bool, true, false, cond, ◌&&◌, ◌||◌, eqb, ltb, ◌⊎◌, List, [], ◌∷◌, ◌++◌, map, length, get_or, replicate, is_ok, sym, refl, ap, ◌∙◌, subst, inl, inr, ⊎_elim, mul-le-mul, arith, le-ltb, lt-ltb, eq-eqb, ne_eqb}
-use Rattle.std.proofs.lemmas.Bool.{cases_lt, cases_Bool, true≢false, or_parts, eqb-false, ltb-false, eqb-true}
+use Rattle.std.proofs.Common.{◌≡◌, ℕ, zero, suc, ◌+◌, ◌-◌, ◌<◌, ◌≤◌, Bool, true, false, cond, ◌&&◌, ◌||◌, eqb, ltb, List, [], ◌∷◌, length, get_or, replicate, is_ok, sym, refl, ap, ◌∙◌, mul-le-mul, arith, ne_eqb}
+use Rattle.std.proofs.lemmas.Bool.{true≢false, or_parts, eqb-false, ltb-false}
 use lib.ListN.{length-replicate, get_or-replicate}
 use lib.Dec.{eqb-suc-suc}
 use Rattle.rules.proofs.Fit.{Fit, more, none}

@@ -1,7 +1,7 @@
 -- What one accepted lot does, office by office.
-use Rattle.std.proofs.Common.{◌≡◌, ℕ, zero, suc, ◌+◌, ◌-◌, ◌*◌, ◌/◌, ◌%◌, ◌<◌, ◌≤◌, Bool, true, false, cond, eqb, List, [], ◌∷◌, ◌++◌, length, get_or, sym, refl, ap, ◌∙◌, subst, arith, eq-eqb, ne_eqb}
+use Rattle.std.proofs.Common.{◌≡◌, ℕ, zero, suc, ◌+◌, ◌*◌, ◌/◌, ◌%◌, ◌<◌, ◌≤◌, Bool, true, false, cond, eqb, List, [], ◌∷◌, ◌++◌, length, get_or, sym, refl, ap, ◌∙◌, subst, arith, ne_eqb}
 use lib.Dec.{eqb-suc-suc}
-use Rattle.rules.proofs.Fit.{Fit, credits, downs, more, none, own_at, ups}
+use Rattle.rules.proofs.Fit.{Fit, more, none, own_at}
 use Rattle.rules.proofs.Lot.{Inv, kept_is, last_is, length_at, next_is, on_is}
 use Rattle.rules.proofs.Machine.{Sound, lot, run, two_turns}
 use Rattle.rules.specs.Lists.{at, total}

@@ -1,11 +1,11 @@
 -- The counting rules: offices count lots, and a coordinator follows them down the steps of a ladder. Assumes nothing.
-use Rattle.std.specs.Prelude.{ℕ, zero, suc, ◌+◌, ◌-◌, ◌*◌, ◌/◌, ◌%◌, Bool, true, false, cond, ◌&&◌, ◌||◌, List, [], ◌∷◌, ◌++◌, map, length, replicate, Ok, Err, Result, ◌==◌, nat_lt, slice_index_or}
+use Rattle.std.specs.Prelude.{ℕ, ◌+◌, ◌-◌, ◌*◌, ◌/◌, ◌%◌, Bool, true, false, cond, ◌&&◌, ◌||◌, List, [], ◌∷◌, ◌++◌, map, replicate, Ok, Err, Result, ◌==◌, nat_lt, slice_index_or}
 use Rattle.fault.specs.Faults.{fault}
 use Rattle.fault.specs.declared.Fault.{Fault}
 use Rattle.fault.specs.declared.Layer.TheVariants.{Window}
 use Rattle.fault.specs.declared.Refusal.TheVariants.{NoSuchOfficeOrLane, WindowClosed}
 use Rattle.post.specs.Lanes.{Lane, no_lane}
-use Rattle.rules.specs.Lists.{total, at, fold}
+use Rattle.rules.specs.Lists.{at, fold}
 
 -- How many offices there are, how many steps the ladder has, and the slack of each step: slack 0 is the top, the slack of the last step the grain.
 pub record Setting : Type 0 where

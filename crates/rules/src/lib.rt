@@ -1,4 +1,6 @@
 // The counting rules as definitions (specs/), and what holds of every run of lots by them: each function's contract is a theorem.
+#![tactic(auto)]
+
 ghost use Rattle.rules.specs.Laws.{EveryRunIsLawful, OrderNeverMatters, EveryListHasOneRun};
 
 // Every list of lots has a run by the rules, and only one.

@@ -1,5 +1,5 @@
 -- Terms are read from a text exactly where it is theirs.
-use Rattle.std.proofs.Common.{◌≡◌, ℕ, zero, suc, ◌+◌, ◌-◌, ◌*◌, ◌^◌, ◌<◌, ◌≤◌, Bool, true, false, cond, ◌&&◌, leb, List, [], ◌∷◌, ◌++◌, length, take, drop, Ok, Err, decimal, Result, sym, refl, ap, ◌∙◌, subst, ⊎_elim, append_assoc, mul_assoc, mul-le-mul_left, mul-one, arith}
+use Rattle.std.proofs.Common.{◌≡◌, ℕ, ◌+◌, ◌*◌, ◌<◌, ◌≤◌, Bool, true, ◌&&◌, leb, List, [], ◌∷◌, ◌++◌, length, take, drop, Ok, Err, decimal, Result, sym, refl, ap, ◌∙◌, subst, ⊎_elim, mul_assoc, mul-le-mul_left, mul-one, arith}
 use Rattle.std.specs.List.{AllByRecursion as All}
 use Rattle.std.specs.Str.{bytes_eq}
 use Rattle.std.proofs.lemmas.Bool.{cond-true, cond-false, cases_Bool, and_parts, and_from, leb-true, le-leb}
@@ -10,11 +10,10 @@ use Rattle.fault.specs.declared.Refusal.TheVariants.{OutOfRange}
 use Rattle.reader.specs.declared.byte_kind.ByteKind.TheVariants.{Digit}
 use Rattle.reader.specs.Bytes.{run}
 use Rattle.ladder.specs.Slacks.{product}
-use Rattle.reader.specs.Readings.{Reading, bind, whole, begins_at, end_text, number_if, number_in, line_of}
+use Rattle.reader.specs.Readings.{Reading, begins_at, end_text, number_if, number_in, line_of}
 use Rattle.reader.proofs.Exact.{bind_inv, bind_on, ok_same, cond_inv, past, begins_sound, begins_full, number_sound, number_full, line_sound, line_full, end_text_sound, end_text_full}
 use Rattle.terms.specs.declared.model.PostChoice.{PostChoice}
 use Rattle.terms.specs.declared.model.PostChoice.TheVariants.{Direct, Bit}
-use Rattle.reader.specs.Lists.{numbers}
 use Rattle.terms.specs.Models.{LadderModel, halving, listed, TermsModel}
 use Rattle.terms.specs.TermsText.{most_top, steps_allowed, divisor_allowed, divisors, ladder, post, terms, read_terms}
 use Rattle.reader.specs.Words.{offices_key, grain_key, ladder_key, post_key, halving_word, listed_word, direct_word, bit_word}

@@ -1,5 +1,5 @@
 -- The four lines of the terms, each read where the reader stands after the one before.
-use Rattle.std.proofs.Common.{◌≡◌, ℕ, Ok, Result, sym, refl, ◌∙◌}
+use Rattle.std.proofs.Common.{◌≡◌, ℕ, Ok, Result, sym, ◌∙◌}
 use Rattle.fault.specs.declared.Fault.{Fault}
 use Rattle.fault.specs.declared.Refusal.TheVariants.{OutOfRange}
 use Rattle.reader.specs.declared.Reader.{Reader}

@@ -1,4 +1,6 @@
 // The terms of a window: how many offices there are, the grain, the ladder and the post, and how their text is read.
+#![tactic(auto)]
+
 mod model;
 mod terms_text;
 

@@ -4,7 +4,6 @@ use Rattle.std.proofs.lemmas.Bool.{cond-false, ltb-false, le-ltb}
 use Rattle.fault.specs.declared.Fault.{Fault}
 use Rattle.fault.specs.declared.Layer.{Layer}
 use Rattle.fault.specs.declared.Layer.TheVariants.{Terms as InTerms, Day as InDay}
-use Rattle.reader.specs.Readings.{bind}
 use Rattle.reader.proofs.Exact.{bind_inv, bind_on, ok_same, cond_inv_not}
 use Rattle.day.specs.declared.model.Day.{Day}
 use Rattle.terms.specs.declared.model.Terms.{Terms}

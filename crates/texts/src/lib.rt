@@ -1,4 +1,6 @@
 // Both texts together: their lengths first, then the terms and the day.
+#![tactic(auto)]
+
 mod both_texts;
 
 pub use both_texts::{MOST_BYTES, read_texts};

@@ -1,4 +1,6 @@
 // Answers a table of pairs of texts, which an unrelated program has answered too (see reference/).
+#![tactic(auto)]
+
 use printing::answer;
 use std::alloc::{AllocError, Global};
 use std::io::{Read, Write};

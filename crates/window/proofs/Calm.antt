@@ -1,21 +1,17 @@
 -- What a lot does to a window whose lanes are empty. Assumes nothing.
-use Rattle.std.proofs.Common.{◌≡◌, ℕ, zero, suc, ◌+◌, ◌-◌, ◌*◌, ◌/◌, ◌%◌, ◌<◌, ◌≤◌, Bool, true, false, cond, ◌||◌, eqb, ltb, leb, ◌≢◌, ◌⊎◌, List, [], ◌∷◌, ◌++◌, length, get_or, set, Some, None, Ok, Err, Option, Result, sym, refl, ap, ◌∙◌, subst, inl, inr, ⊎_elim, arith}
-use Rattle.std.proofs.lemmas.List.{length-set, length_push, get_or-set_same, get_or-set_other, get_or_past, set_past, set-set}
-use Rattle.std.proofs.lemmas.Bool.{cases_lt, cases_eq, cases_Bool, lt-ltb, le-ltb, lt-leb, le-leb, eq-eqb, ne_eqb, eqb-true, eqb-false, ltb-true, ltb-false, cond-true, cond-false}
-use Rattle.fault.specs.declared.Fault.{Fault}
-use Rattle.post.specs.Lanes.{Lane, lane, no_lane, lane_fault, send, sends, send_answer, joined, take, taken}
-use Rattle.post.specs.Outs.{Out, out}
-use Rattle.window.specs.Sequences.{fine, go_on, then, each}
+use Rattle.std.proofs.Common.{◌≡◌, ℕ, zero, suc, ◌+◌, ◌*◌, ◌/◌, ◌%◌, ◌<◌, ◌≤◌, false, ◌≢◌, List, [], ◌∷◌, ◌++◌, length, set, None, Ok, sym, refl, ap, ◌∙◌, subst, ⊎_elim, arith}
+use Rattle.std.proofs.lemmas.List.{length-set, get_or-set_same, get_or-set_other, set_past, set-set}
+use Rattle.std.proofs.lemmas.Bool.{cases_lt, cases_eq, lt-leb, eq-eqb, ne_eqb, cond-true, cond-false}
+use Rattle.post.specs.Lanes.{Lane, lane, no_lane, send, sends, send_answer, joined}
+use Rattle.post.specs.Outs.{Out}
+use Rattle.window.specs.Sequences.{fine, then, each}
 use Rattle.window.specs.declared.setting_table.SettingTable.{SettingTable}
 use Rattle.window.specs.declared.books.Books.{Books}
-use Rattle.window.specs.declared.books.Coordinator.{Coordinator}
-use Rattle.window.specs.declared.books.OfficeRecord.{OfficeRecord}
-use Rattle.window.specs.declared.books.Message.{Message}
-use Rattle.window.specs.declared.books.Message.TheVariants.{Signal, Start, Close, Other}
-use Rattle.window.specs.Parts.{Heard, heard, heard_of, message, Followed, followed, followed_of, moved, signalled, office, no_office, slack, quota, in_coordinator, in_office, due, counted, credited}
-use Rattle.window.specs.Turns.{State, at, with_lanes, tell, signal, with_each, drain, replies, hear, answers, follow, coordinator_part, office_part, turn, settle, signal_and_settle, accepted}
+use Rattle.window.specs.declared.books.Message.TheVariants.{Signal, Start, Close}
+use Rattle.window.specs.Parts.{Heard, heard, heard_of, message, Followed, followed, followed_of, signalled, office, quota, in_coordinator}
+use Rattle.window.specs.Turns.{State, at, with_lanes, tell, with_each, drain, replies, hear, answers, follow, coordinator_part, office_part, turn, signal_and_settle}
 use Rattle.window.proofs.Even.{Empty}
-use Rattle.window.proofs.Steps.{went, each_keeps}
+use Rattle.window.proofs.Steps.{went}
 use Rattle.window.proofs.Drains.{drain_back}
 
 -- programs that go well

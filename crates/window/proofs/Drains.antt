@@ -1,12 +1,12 @@
 -- The steps of the window's parts. Assumes nothing.
-use Rattle.std.proofs.Common.{◌≡◌, ℕ, zero, suc, ◌+◌, ◌-◌, ◌*◌, ◌<◌, ◌≤◌, Bool, true, false, cond, leb, List, [], ◌∷◌, length, get_or, set, Some, None, Ok, Err, Option, Result, sym, refl, ap, ◌∙◌, subst, arith}
+use Rattle.std.proofs.Common.{◌≡◌, ℕ, ◌+◌, ◌*◌, ◌<◌, Bool, true, false, cond, leb, List, [], ◌∷◌, length, set, Some, None, Ok, Err, Option, Result, sym, refl, ap, ◌∙◌, subst, arith}
 use Rattle.std.proofs.lemmas.List.{length-set, get_or-set_same, get_or-set_other}
 use Rattle.std.proofs.lemmas.Bool.{leb-false, lt-leb, cond-false}
 use Rattle.fault.specs.declared.Fault.{Fault}
 use Rattle.fault.specs.declared.Refusal.TheVariants.{NoSuchOfficeOrLane}
 use Rattle.post.specs.Lanes.{Lane, lane, no_lane, lane_fault, send, sends, send_answer, joined, take, taken}
 use Rattle.post.specs.Outs.{Out, out}
-use Rattle.window.specs.Sequences.{fine, then, each}
+use Rattle.window.specs.Sequences.{fine, then}
 use Rattle.window.specs.declared.books.Books.{Books}
 use Rattle.window.specs.declared.books.Message.{Message}
 use Rattle.window.specs.Parts.{Heard, heard, heard_of, message, Followed, followed, followed_of, office}

@@ -1,7 +1,5 @@
 -- What holds between two lots of a window that was opened on an unused post. Assumes nothing.
-use Rattle.std.proofs.Common.{◌≡◌, ℕ, ◌+◌, ◌*◌, ◌<◌, ◌≤◌, Bool, true, false, cond, ◌||◌, eqb, ltb, [], length, Ok, Err, Result}
-use Rattle.fault.specs.declared.Fault.{Fault}
-use Rattle.window.specs.declared.books.Books.{Books}
+use Rattle.std.proofs.Common.{◌≡◌, ℕ, ◌+◌, ◌*◌, ◌<◌, [], length}
 use Rattle.post.specs.Lanes.{lane}
 use Rattle.window.specs.Parts.{office}
 use Rattle.window.specs.Turns.{State}

@@ -1,24 +1,23 @@
 -- A turn that finds something lowers a number: so turns end. Assumes nothing.
-use Rattle.std.proofs.Common.{◌≡◌, ℕ, zero, suc, ◌+◌, ◌-◌, ◌*◌, ◌/◌, ◌%◌, ◌<◌, ◌≤◌, Bool, true, false, cond, eqb, ltb, leb, ◌≢◌, ◌⊎◌, List, [], ◌∷◌, ◌++◌, length, get_or, set, Some, None, Ok, Err, sum_by, Option, Result, sym, refl, ap, ◌∙◌, subst, inl, inr, ⊎_elim, mul-le-mul_left, div-add-mod', mul-one, div-le_self, arith}
+use Rattle.std.proofs.Common.{◌≡◌, ℕ, zero, suc, ◌+◌, ◌-◌, ◌*◌, ◌/◌, ◌%◌, ◌<◌, ◌≤◌, Bool, true, false, cond, eqb, ltb, leb, ◌≢◌, List, [], ◌∷◌, ◌++◌, length, set, Some, None, Ok, Err, sum_by, Option, Result, sym, refl, ap, ◌∙◌, subst, ⊎_elim, mul-le-mul_left, div-add-mod', mul-one, arith}
 use native.Mathlib.Nat.{div-zero, mod-zero}
 use Rattle.std.proofs.lemmas.List.Sums.{sum_by-set}
 use Rattle.std.proofs.lemmas.List.{length-set, length_push, get_or-set_same, get_or-set_other, get_or_past, set_past}
-use Rattle.std.proofs.lemmas.Bool.{cases_lt, cases_eq, ltb-true, leb-true, leb-false, eqb-true}
+use Rattle.std.proofs.lemmas.Bool.{cases_lt, cases_eq, ltb-true, leb-true, leb-false}
 use Rattle.fault.specs.declared.Fault.{Fault}
 use Rattle.fault.specs.declared.Refusal.TheVariants.{NoSuchOfficeOrLane}
-use Rattle.post.specs.Lanes.{Lane, lane, no_lane, lane_fault, send, sends, send_answer, joined, take, taken}
+use Rattle.post.specs.Lanes.{Lane, lane, no_lane, lane_fault, send, sends, send_answer, joined}
 use Rattle.post.specs.Outs.{Out, out}
-use Rattle.window.specs.Sequences.{fine, go_on, then, each}
+use Rattle.window.specs.Sequences.{go_on, then, each}
 use Rattle.window.specs.declared.books.Books.{Books}
 use Rattle.window.specs.declared.setting_table.SettingTable.{SettingTable}
-use Rattle.window.specs.declared.books.Coordinator.{Coordinator}
 use Rattle.window.specs.declared.books.OfficeRecord.{OfficeRecord}
 use Rattle.window.specs.declared.books.Message.{Message}
 use Rattle.window.specs.declared.books.Message.TheVariants.{Signal, Start, Close, Other}
-use Rattle.window.specs.Parts.{Heard, heard, heard_of, message, Followed, followed, followed_of, moved, signalled, office, no_office, slack, quota, in_coordinator, in_office}
+use Rattle.window.specs.Parts.{Heard, heard, heard_of, message, Followed, followed, followed_of, moved, signalled, office, no_office, slack, in_coordinator}
 use Rattle.window.proofs.Steps.{each_keeps}
 use Rattle.window.proofs.Drains.{Holds, hear_holds, follow_holds}
-use Rattle.window.specs.Turns.{State, at, with_lanes, tell, signal, with_each, drain, replies, hear, answers, follow, coordinator_part, office_part, turn, Waits-at, Busy}
+use Rattle.window.specs.Turns.{State, at, tell, signal, with_each, drain, replies, hear, follow, coordinator_part, office_part, turn, Waits-at, Busy}
 
 pub held : Lane → ℕ
 held l = length l.waiting

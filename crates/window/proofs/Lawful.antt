@@ -1,9 +1,9 @@
 -- The laws of runs, of a window that a run led to. Assumes nothing.
-use Rattle.std.proofs.Common.{◌≡◌, ℕ, ◌+◌, ◌*◌, ◌/◌, ◌%◌, ◌<◌, ◌≤◌, Bool, true, false, cond, leb, ◌⊎◌, List, [], length, sym, refl, ap, ◌∙◌, subst, inl, inr, ⊎_elim, arith}
+use Rattle.std.proofs.Common.{◌≡◌, ℕ, ◌+◌, ◌*◌, ◌/◌, ◌%◌, ◌<◌, ◌≤◌, Bool, true, false, cond, leb, List, length, sym, refl, ap, ◌∙◌, subst, ⊎_elim, arith}
 use Rattle.std.proofs.lemmas.List.{get_or_past}
 use Rattle.std.proofs.lemmas.Bool.{cases_eq, cases_lt, cond-false, lt-leb, leb-true}
 use Rattle.post.specs.Lanes.{Lane, lane, no_lane}
-use Rattle.rules.specs.Rules.{Setting, opened}
+use Rattle.rules.specs.Rules.{opened}
 use Rattle.rules.specs.Runs.{Answer, Runs, Books as Books-shown, books, accepted_at}
 use Rattle.rules.specs.Laws.{ClosesAtCeiling, FollowsFromLots, OrderDoesNotMatter}
 use Rattle.rules.proofs.Machine.{Sound}
@@ -14,7 +14,6 @@ use Rattle.window.specs.Turns.{State, at}
 use Rattle.window.specs.Parts.{slack}
 use Rattle.window.specs.Windows.{setting_for, setting_in, shown, ReachedBy, LawfulBooks, NothingWaits, SameSetting}
 use Rattle.window.proofs.Even.{Empty}
-use Rattle.window.proofs.Held.{Held}
 use Rattle.window.proofs.Link.{sound}
 use Rattle.window.proofs.Shown.{own_terms, to_held}
 

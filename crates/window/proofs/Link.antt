@@ -1,14 +1,13 @@
 -- A lot at a window is a lot of the rules. Assumes nothing.
-use Rattle.std.proofs.Common.{◌≡◌, ℕ, zero, suc, ◌+◌, ◌-◌, ◌*◌, ◌/◌, ◌%◌, ◌<◌, ◌≤◌, Bool, true, false, cond, not, ◌||◌, eqb, ltb, leb, ◌≢◌, ◌⊎◌, List, [], ◌∷◌, ◌++◌, length, get_or, set, is_ok, Ok, Err, Result, sym, refl, ap, ◌∙◌, subst, inl, inr, ⊎_elim, arith}
+use Rattle.std.proofs.Common.{◌≡◌, ℕ, zero, suc, ◌+◌, ◌-◌, ◌*◌, ◌/◌, ◌%◌, ◌<◌, ◌≤◌, Bool, true, false, cond, not, ◌||◌, eqb, ltb, List, length, get_or, set, is_ok, Ok, Err, sym, refl, ap, ◌∙◌, subst, ⊎_elim, arith}
 use Rattle.std.proofs.lemmas.List.{get_or-set_same, get_or-set_other, length-set}
-use Rattle.std.proofs.lemmas.Bool.{cases_eq, cases_Bool, eq-eqb, ne_eqb, eqb-true, eqb-false, or_parts, ltb-false, cond-true, cond-false}
+use Rattle.std.proofs.lemmas.Bool.{cases_eq, eq-eqb, ne_eqb, eqb-true, eqb-false, or_parts, ltb-false, cond-true, cond-false}
 use Rattle.fault.specs.declared.Fault.{Fault}
 use Rattle.fault.specs.Faults.{fault}
 use Rattle.fault.specs.declared.Layer.TheVariants.{Window as In-window}
 use Rattle.fault.specs.declared.Refusal.TheVariants.{NoSuchOfficeOrLane, WindowClosed}
-use Rattle.post.specs.Lanes.{Lane, lane}
+use Rattle.post.specs.Lanes.{lane}
 use Rattle.rules.specs.Rules.{Setting, divisor, State as Rules-state, state, coordinator_at, Coordinator as Rules-coordinator, Account, Office as Rules-office, no_office as no_rules_office, no_account, answer, quota as rules_quota, counted as rules_counted, opened as rules_opened}
-use Rattle.rules.specs.Runs.{Answer}
 use Rattle.rules.proofs.Machine.{Sound, ended, lot, two_turns, counts as Counts-of}
 use Rattle.rules.proofs.Lot.{Inv, Good}
 use Rattle.rules.proofs.Run.{good}
@@ -19,7 +18,7 @@ use Rattle.window.specs.declared.books.Coordinator.{Coordinator}
 use Rattle.window.specs.declared.books.OfficeRecord.{OfficeRecord}
 use Rattle.window.specs.Parts.{office, no_office, slack, quota, in_coordinator, due, counted}
 use Rattle.window.specs.Turns.{State, at}
-use Rattle.window.proofs.After.{moved_record, whole, sumq, started, Moved-on, Carried, After, goes_on, ends, moves_on, Accepted, counts, signals}
+use Rattle.window.proofs.After.{moved_record, whole, sumq, started, Carried, After, goes_on, ends, moves_on, Accepted, counts, signals}
 use Rattle.window.proofs.Even.{Even}
 use Rattle.window.proofs.Held.{Same-terms, Shows, Held, Next}
 

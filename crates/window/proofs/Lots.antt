@@ -1,23 +1,21 @@
 -- A lot at a window whose lanes are empty: no fault, and the lanes are empty again. Assumes nothing.
-use Rattle.std.proofs.Common.{◌≡◌, ℕ, zero, suc, ◌+◌, ◌-◌, ◌*◌, ◌/◌, ◌%◌, ◌<◌, ◌≤◌, Bool, true, false, cond, ◌||◌, eqb, ltb, leb, ◌≢◌, ◌⊎◌, List, [], ◌∷◌, ◌++◌, length, get_or, set, replicate, Some, None, Ok, Err, Option, Result, sym, refl, ap, ◌∙◌, subst, inl, inr, ⊎_elim, mul_comm, div-lt_iff_lt-mul, mul-le-mul, div-le_self, arith}
-use Rattle.std.proofs.lemmas.List.{length-set, get_or-set_same, get_or-set_other, get_or_past, set_past, nil_from_length, length-replicate, get_or-replicate}
-use Rattle.std.proofs.lemmas.Bool.{cases_lt, cases_eq, cases_Bool, lt-ltb, le-ltb, eq-eqb, ne_eqb, eqb-true, eqb-false, or_parts, ltb-false, cond-true, cond-false}
+use Rattle.std.proofs.Common.{◌≡◌, ℕ, ◌+◌, ◌-◌, ◌*◌, ◌/◌, ◌<◌, ◌≤◌, true, false, cond, eqb, ◌≢◌, List, [], length, get_or, replicate, Some, sym, refl, ap, ◌∙◌, subst, ⊎_elim, div-lt_iff_lt-mul, div-le_self, arith}
+use Rattle.std.proofs.lemmas.List.{length-set, get_or-set_same, get_or-set_other, set_past, nil_from_length, get_or-replicate}
+use Rattle.std.proofs.lemmas.Bool.{cases_lt, cases_eq, cases_Bool, lt-ltb, le-ltb, eq-eqb, ne_eqb, cond-true, cond-false}
 use Rattle.post.specs.Lanes.{Lane, lane, no_lane, PostLaw, Unused}
-use Rattle.post.specs.Outs.{Out, out}
-use Rattle.window.specs.Sequences.{fine, then, each}
+use Rattle.window.specs.Sequences.{fine}
 use Rattle.window.specs.declared.setting_table.SettingTable.{SettingTable}
 use Rattle.window.specs.declared.books.Books.{Books}
 use Rattle.window.specs.declared.books.Coordinator.{Coordinator}
 use Rattle.window.specs.declared.checked_books.CheckedBooks.{CheckedBooks}
 use Rattle.window.specs.declared.books.OfficeRecord.{OfficeRecord}
-use Rattle.window.specs.Parts.{Heard, heard_of, signalled, office, no_office, slack, quota, in_coordinator, in_office, due, counted}
+use Rattle.window.specs.Parts.{Heard, heard_of, signalled, office, no_office, slack, quota, in_coordinator, due, counted}
 use Rattle.window.specs.Turns.{State, at, with_lanes, tell, replies, coordinator_part, office_part, turn, signal_and_settle, accepted}
-use Rattle.window.proofs.After.{moved_record, whole, sumq, started, Moved-on, Carried, After, goes_on, ends, moves_on, Accepted, counts, signals}
+use Rattle.window.proofs.After.{moved_record, whole, sumq, Moved-on, After, goes_on, ends, moves_on, Accepted, counts, signals}
 use Rattle.window.proofs.Even.{Empty, Even}
 use Rattle.window.specs.Opening.{opened}
-use Rattle.fault.specs.declared.Fault.{Fault}
 use Rattle.window.proofs.Calm.{then_fine, once, once_empty, once_long, ready, signalled_on, settle_signal, All-told, tell_fine, close_part, office_skip, empty_turn}
-use Rattle.window.proofs.Starts.{Moving, Crediting, start_part, sumq_more, sumq_mono, sumq_less, credit_part}
+use Rattle.window.proofs.Starts.{Moving, Crediting, start_part, sumq_less, credit_part}
 
 -- the record of an office after a credit: its step and its remainder stay
 module _ (b : Books) (i : ℕ) (h : Coordinator) where

@@ -1,10 +1,10 @@
 -- What reading a ladder and asking a post about its lanes give. Assumes nothing.
-use Rattle.std.proofs.Common.{◌≡◌, ℕ, ◌+◌, ◌-◌, ◌*◌, ◌/◌, ◌<◌, ◌≤◌, Bool, true, false, cond, leb, ◌≢◌, List, [], length, get_or, set, Ok, Err, Result, sym, refl, ap, ◌∙◌, subst, arith, below_more}
+use Rattle.std.proofs.Common.{◌≡◌, ℕ, ◌+◌, ◌-◌, ◌*◌, ◌/◌, ◌<◌, ◌≤◌, Bool, true, false, cond, leb, ◌≢◌, List, [], length, get_or, set, Ok, Err, sym, refl, ap, ◌∙◌, arith, below_more}
 use Rattle.std.proofs.lemmas.List.{get_or-set_same, get_or-set_other, length-set, get_or_past}
 use Rattle.std.proofs.lemmas.Bool.{leb-true}
 use Rattle.fault.specs.declared.Fault.{Fault}
 use Rattle.fault.specs.declared.Refusal.TheVariants.{NoSuchOfficeOrLane}
-use Rattle.ladder.specs.Laws.{LadderLaw, Tied, no_such_step, slack_answer}
+use Rattle.ladder.specs.Laws.{LadderLaw, no_such_step, slack_answer}
 use Rattle.post.specs.Lanes.{Lane, lane, no_lane, lane_fault, waiting_answer}
 use Rattle.rules.specs.Rules.{Setting, divisor}
 use Rattle.rules.specs.Laws.{SettingLaw}

@@ -1,13 +1,13 @@
 -- What goes wrong in a lot once it is admitted is a fault of the post. Assumes nothing.
-use Rattle.std.proofs.Common.{◌≡◌, ℕ, zero, suc, ◌+◌, ◌*◌, Bool, true, false, cond, leb, List, [], ◌∷◌, length, Some, None, Ok, Err, Option, Result, sym, refl, ap, ◌∙◌, subst}
+use Rattle.std.proofs.Common.{◌≡◌, ℕ, zero, suc, ◌+◌, ◌*◌, Bool, true, false, cond, leb, List, [], ◌∷◌, length, Some, None, Ok, Err, Option, Result, sym, refl, ap, subst}
 use Rattle.fault.specs.declared.Fault.{Fault}
 use Rattle.fault.specs.declared.Layer.TheVariants.{Post}
 use Rattle.post.specs.Lanes.{Lane, lane, room_answer, send_answer, sends, send, joined}
 use Rattle.post.specs.Outs.{Out, out}
 use Rattle.window.specs.Sequences.{go_on, then, each}
 use Rattle.window.specs.declared.books.Books.{Books}
-use Rattle.window.specs.Parts.{Heard, heard, message, Followed, followed, office}
-use Rattle.window.specs.Turns.{State, at, with_lanes, tell, with_each, drain, replies, hear, signal, answers, follow, coordinator_part, office_part, turn, Settled, calm, again, stops, Signals, refused, sent, Accepts, quiet, signalled_on}
+use Rattle.window.specs.Parts.{heard, message, followed, office}
+use Rattle.window.specs.Turns.{State, at, with_each, drain, replies, hear, follow, coordinator_part, office_part, turn, Settled, calm, again, stops, Signals, refused, sent, Accepts, quiet, signalled_on}
 
 -- an answer, or a fault of the post
 abbrev pub Posted : Result (Unit {0}) Fault → Type 0

@@ -1,12 +1,11 @@
 -- From what the proofs work with to what a reader is told, and back. Assumes nothing.
-use Rattle.std.proofs.Common.{◌≡◌, ℕ, zero, suc, ◌+◌, ◌-◌, ◌*◌, ◌/◌, ◌<◌, ◌≤◌, Bool, true, false, not, leb, List, [], ◌∷◌, ◌++◌, map, length, get_or, take, sum_by, sym, refl, ap, ◌∙◌, subst, arith}
+use Rattle.std.proofs.Common.{◌≡◌, ℕ, zero, suc, ◌+◌, ◌-◌, ◌*◌, ◌/◌, ◌<◌, ◌≤◌, Bool, true, false, not, List, [], ◌∷◌, ◌++◌, map, length, get_or, take, sum_by, sym, refl, ap, ◌∙◌, subst, arith}
 use lib.ListN.{length-map, get_or-map}
 use Rattle.std.proofs.lemmas.List.{ext_get_or, length-take-le, get_or-take}
 use Rattle.std.proofs.lemmas.List.Sums.{sum_by-cons}
-use Rattle.std.proofs.lemmas.Bool.{cond-true, le-leb, leb-true}
-use Rattle.post.specs.Lanes.{Lane, lane, no_lane, all_sent}
-use Rattle.rules.specs.Lists.{total}
-use Rattle.rules.specs.Rules.{Setting, divisor, Account, Office, State as Rules-state, no_account, no_office, opened, answer, lane_of}
+use Rattle.std.proofs.lemmas.Bool.{cond-true, le-leb}
+use Rattle.post.specs.Lanes.{Lane, lane, all_sent}
+use Rattle.rules.specs.Rules.{Setting, divisor, Account, Office, State as Rules-state, no_account, no_office, opened, answer}
 use Rattle.rules.specs.Runs.{Answer, Runs, Books as Books-shown, books, messages}
 use Rattle.rules.proofs.Machine.{Sound, ended, answers, counts, run, lot}
 use Rattle.rules.proofs.Fit.{Fit, none, more, own_at}
@@ -20,9 +19,8 @@ use Rattle.window.specs.declared.checked_books.CheckedBooks.{CheckedBooks}
 use Rattle.window.specs.declared.books.OfficeRecord.{OfficeRecord}
 use Rattle.window.specs.Parts.{office, slack, no_office as no_record}
 use Rattle.window.specs.Turns.{State, at}
-use Rattle.window.specs.Windows.{setting_for, setting_in, shown, ReachedBy}
-use Rattle.window.proofs.Even.{Even}
-use Rattle.window.proofs.Held.{Same-terms, Shows, Held, Next}
+use Rattle.window.specs.Windows.{setting_in, shown, ReachedBy}
+use Rattle.window.proofs.Held.{Same-terms, Held, Next}
 use Rattle.window.proofs.Link.{sound}
 
 -- the lanes two by two

@@ -1,19 +1,14 @@
 -- What the offices and the coordinator do after a start. Assumes nothing.
-use Rattle.std.proofs.Common.{◌≡◌, ℕ, zero, suc, ◌+◌, ◌-◌, ◌*◌, ◌/◌, ◌%◌, ◌<◌, ◌≤◌, Bool, true, false, cond, eqb, ltb, leb, ◌≢◌, ◌⊎◌, List, [], ◌∷◌, ◌++◌, length, get_or, set, replicate, Some, None, Ok, Err, Option, Result, sym, refl, ap, ◌∙◌, subst, inl, inr, ⊎_elim, suc-mul, add-mul, mul-add, add-one, arith}
-use Rattle.std.proofs.lemmas.List.{length-set, length_push, length-replicate, get_or-set_same, get_or-set_other, set-set, replicate_more}
-use Rattle.std.proofs.lemmas.Bool.{cases_lt, cases_eq, le-leb, eq-eqb, ne_eqb, cond-true, cond-false}
-use Rattle.fault.specs.declared.Fault.{Fault}
-use Rattle.post.specs.Lanes.{Lane, lane, no_lane, lane_fault, send, joined, taken}
-use Rattle.post.specs.Outs.{Out, out}
-use Rattle.window.specs.Sequences.{fine, then, each}
+use Rattle.std.proofs.Common.{◌≡◌, ℕ, zero, suc, ◌+◌, ◌-◌, ◌*◌, ◌<◌, ◌≤◌, false, eqb, ◌≢◌, List, [], ◌∷◌, ◌++◌, length, set, replicate, None, sym, refl, ap, ◌∙◌, ⊎_elim, suc-mul, add-one, arith}
+use Rattle.std.proofs.lemmas.List.{length-set, length-replicate, get_or-set_same, get_or-set_other, replicate_more}
+use Rattle.std.proofs.lemmas.Bool.{cases_eq, le-leb, eq-eqb, ne_eqb, cond-true, cond-false}
+use Rattle.post.specs.Lanes.{Lane, lane, no_lane, send, joined}
+use Rattle.window.specs.Sequences.{fine}
 use Rattle.window.specs.declared.setting_table.SettingTable.{SettingTable}
-use Rattle.window.specs.declared.books.Books.{Books}
 use Rattle.window.specs.declared.books.Coordinator.{Coordinator}
 use Rattle.window.specs.declared.books.OfficeRecord.{OfficeRecord}
-use Rattle.window.specs.declared.books.Message.{Message}
-use Rattle.window.specs.declared.books.Message.TheVariants.{Signal, Start, Close, Other}
 use Rattle.window.specs.Parts.{Heard, heard, heard_of, message, Followed, followed, followed_of, moved, signalled, office, no_office, slack, quota, in_coordinator, in_office}
-use Rattle.window.specs.Turns.{State, at, with_lanes, tell, signal, with_each, drain, replies, hear, answers, follow, coordinator_part, office_part, turn}
+use Rattle.window.specs.Turns.{State, at, with_lanes, signal, with_each, drain, replies, hear, answers, follow, coordinator_part, office_part}
 use Rattle.window.proofs.After.{moved_record, whole, sumq}
 use Rattle.window.proofs.Drains.{drain_back}
 use Rattle.window.proofs.Calm.{then_fine, each_from, drain_one, send_fine, message_start, message_signal}

@@ -1,9 +1,9 @@
 -- Turns until nothing waits are two turns, where two leave nothing; and what any lot leaves alone. Assumes nothing.
-use Rattle.std.proofs.Common.{◌≡◌, ℕ, ◌+◌, ◌-◌, ◌*◌, ◌<◌, ◌≤◌, Bool, true, false, cond, ◌||◌, eqb, ltb, ◌⊎◌, List, [], length, Ok, Err, Result, sym, refl, ap, ◌∙◌, subst, ⊎_elim, arith}
+use Rattle.std.proofs.Common.{◌≡◌, ℕ, ◌+◌, ◌-◌, ◌*◌, ◌<◌, ◌≤◌, Bool, true, false, cond, ◌||◌, eqb, ltb, List, [], length, Ok, Err, Result, sym, refl, ap, ◌∙◌, subst, ⊎_elim, arith}
 use Rattle.std.proofs.lemmas.List.{length-set, get_or-replicate}
 use Rattle.std.proofs.lemmas.Bool.{cond-true, cond-false, or_parts, eqb-false, ltb-false}
 use Rattle.fault.specs.declared.Fault.{Fault}
-use Rattle.post.specs.Lanes.{Lane, lane, no_lane, send, sends, send_answer, joined, Unused}
+use Rattle.post.specs.Lanes.{Lane, no_lane, send, sends, send_answer, joined, Unused}
 use Rattle.post.specs.Outs.{Out, out}
 use Rattle.rules.specs.Rules.{Setting, Account, account, Office, office as rules_office, no_office as no_rules_office, no_account}
 use Rattle.rules.specs.Runs.{Answer}
@@ -12,7 +12,7 @@ use Rattle.window.specs.declared.books.Books.{Books}
 use Rattle.window.specs.declared.books.OfficeRecord.{OfficeRecord}
 use Rattle.window.specs.declared.checked_books.CheckedBooks.{CheckedBooks}
 use Rattle.window.specs.Sequences.{fine, go_on, then}
-use Rattle.window.specs.Parts.{office, no_office, due, counted}
+use Rattle.window.specs.Parts.{office, no_office, counted}
 use Rattle.window.specs.Turns.{State, at, with_lanes, turn, settle, signal_and_settle, Busy, Calm, Settled, calm, again, stops, Signals, refused, sent, accepted, Accepts, quiet, signalled_on, admitted}
 use Rattle.window.specs.Opening.{opened}
 use Rattle.window.proofs.After.{Accepted}
@@ -20,7 +20,7 @@ use Rattle.window.proofs.Even.{Empty, Even}
 use Rattle.window.proofs.Held.{Held, Next, Same-terms}
 use Rattle.window.proofs.Link.{unknown_next, shut_next, accepted_next}
 use Rattle.window.proofs.Shown.{lane_few}
-use Rattle.window.proofs.Calm.{then_fine, empty_turn}
+use Rattle.window.proofs.Calm.{empty_turn}
 use Rattle.window.proofs.Lots.{even_accepted}
 use Rattle.window.proofs.Falls.{turn_same}
 

@@ -8,7 +8,7 @@ use Rattle.post.specs.Lanes.{Lane, lane, lane_fault, send, taken}
 use Rattle.post.specs.Outs.{Out, out}
 use Rattle.window.specs.Sequences.{fine, then, each}
 use Rattle.window.specs.declared.books.Books.{Books}
-use Rattle.window.specs.Parts.{Heard, heard, message, Followed, followed, office, due, counted}
+use Rattle.window.specs.Parts.{heard, message, Followed, followed, office, due, counted}
 
 -- all that a window holds
 pub record State : Type 0 where

@@ -1,5 +1,5 @@
 -- What a window shows, and the windows that a run of lot calls leads to. Assumes nothing.
-use Rattle.std.specs.Prelude.{◌≡◌, ℕ, ◌+◌, ◌-◌, ◌*◌, ◌<◌, ◌≤◌, Bool, false, cond, not, ◌||◌, List, map, length, take, Ok, Err, Result, ◌==◌, nat_le, nat_lt, slice_index_or}
+use Rattle.std.specs.Prelude.{◌≡◌, ℕ, ◌-◌, ◌*◌, ◌≤◌, Bool, false, cond, not, ◌||◌, List, map, length, take, Ok, Err, Result, ◌==◌, nat_le, nat_lt, slice_index_or}
 use Rattle.fault.specs.Faults.{fault}
 use Rattle.fault.specs.declared.Fault.{Fault}
 use Rattle.fault.specs.declared.Layer.TheVariants.{Window as InWindow}

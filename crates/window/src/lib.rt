@@ -1,4 +1,6 @@
 // The window: counts the lots of all offices up to the ceiling, over any post and any ladder.
+#![tactic(auto)]
+
 mod books;
 mod calls;
 mod checked_books;

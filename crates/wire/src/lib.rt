@@ -1,4 +1,6 @@
 // A wire: lanes on which frames of 16 bits wait. One kind has no troubles; on the other they are marked beforehand.
+#![tactic(auto)]
+
 ghost use Rattle.std.specs.Prelude.{◌≡◌, ℕ, true, List, [], ◌++◌, is_err};
 ghost use Rattle.wire.specs.Wires.{WireLane, Outcome, WireLaw, PutDone, TakeDone};
 

@@ -1,7 +1,7 @@
 -- The worked days and sends, computed. Assumes nothing.
-use Rattle.std.proofs.Common.{◌≡◌, ℕ, zero, suc, ◌+◌, ◌*◌, ◌^◌, ◌<◌, ◌≤◌, true, false, List, [], ◌∷◌, ◌++◌, refl, subst, arith, lit≤}
-use Rattle.ladder.specs.Laws.{LadderLaw, Tied}
-use Rattle.ladder.specs.Slacks.{halving_slack, listed_slack}
+use Rattle.std.proofs.Common.{◌≡◌, ℕ, zero, suc, ◌+◌, ◌*◌, ◌^◌, ◌<◌, ◌≤◌, true, false, List, [], ◌∷◌, refl, subst, arith, lit≤}
+use Rattle.ladder.specs.Laws.{Tied}
+use Rattle.ladder.specs.Slacks.{listed_slack}
 use Rattle.ladder.specs.Halves.{halving_law}
 use Rattle.rules.specs.Rules.{Setting, divisor, opened}
 use Rattle.rules.specs.Runs.{Answer, Runs, Books, books}
@@ -12,7 +12,6 @@ use Rattle.rules.proofs.Laws.{sound}
 use Rattle.wire.specs.Wires.{once, lost, twice}
 use Rattle.bit_post.specs.Sends.{attempt, done, again}
 use Rattle.worked.specs.Days.{halving, listed, ComesTo}
-use Rattle.worked.specs.Sending.{SendsBy}
 use Rattle.worked.specs.Worked.{WorkedDaysAndSends}
 
 -- what the rules compute for a list of lots

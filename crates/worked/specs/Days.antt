@@ -1,5 +1,5 @@
 -- Settings of the two kinds of ladder, and what it is for a list of lots to come out in a certain way. Assumes nothing.
-use Rattle.std.specs.Prelude.{◌≡◌, ℕ, Bool, List, ◌++◌, length, replicate, Ok, Err}
+use Rattle.std.specs.Prelude.{◌≡◌, ℕ, Bool, List, length, replicate, Ok, Err}
 use Rattle.fault.specs.Faults.{fault}
 use Rattle.fault.specs.declared.Layer.TheVariants.{Window}
 use Rattle.fault.specs.declared.Refusal.TheVariants.{WindowClosed}

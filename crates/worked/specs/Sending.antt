@@ -1,5 +1,5 @@
 -- The frames that a send of the alternating bit puts, and what the far end delivers. Assumes nothing.
-use Rattle.std.specs.Prelude.{◌≡◌, ℕ, Bool, true, false, cond, not, List, [], ◌∷◌, ◌++◌, map, length, replicate}
+use Rattle.std.specs.Prelude.{◌≡◌, ℕ, Bool, cond, not, List, [], ◌∷◌, ◌++◌, map, length, replicate}
 use Rattle.wire.specs.Wires.{Outcome, arrivals}
 use Rattle.wire.specs.Marks.{byte_outcome, next_outcomes}
 use Rattle.bit_post.specs.Frames.{data_frame, acknowledgement, bit_of, byte_of}

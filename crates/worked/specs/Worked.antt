@@ -1,5 +1,5 @@
 -- The worked days and sends, as one statement. Assumes nothing.
-use Rattle.std.specs.Prelude.{ℕ, true, false, [], ◌∷◌, ◌++◌, codes}
+use Rattle.std.specs.Prelude.{true, false, [], ◌∷◌, ◌++◌, codes}
 use Rattle.worked.specs.Days.{halving, listed, lots_at, all_accepted, too_late, ComesTo, book}
 use Rattle.worked.specs.Sending.{SendsBy}
 

@@ -1,4 +1,6 @@
 // Lines of output, built up in a list of bytes.
+#![tactic(auto)]
+
 ghost use Rattle.std.specs.Prelude.{◌≡◌, [], ◌++◌, decimal, OnOk};
 ghost use Rattle.reader.specs.Lists.{commas};
 ghost use Rattle.reader.specs.Readings.{line};

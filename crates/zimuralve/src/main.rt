@@ -1,4 +1,6 @@
 // The program: reads terms.txt and day.txt in the current folder, and prints what they say or their first fault.
+#![tactic(auto)]
+
 use anyhow::anyhow;
 use printing::answer;
 use std::io::{ErrorKind, Read, Write};

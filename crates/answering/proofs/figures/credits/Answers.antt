@@ -1,4 +1,4 @@
-use Rattle.std.proofs.Common.{◌≡◌, vec_items, sym, ap, ◌∙◌, arith}
+use Rattle.std.proofs.Common.{vec_items, ap, ◌∙◌, arith}
 use Rattle.window.specs.Windows.{books_of}
 use Rattle.answering.proofs.Gathered.{one_more, always, column_long, all_of}
 use Rattle.answering.proofs.figures.credits.Goals as goal

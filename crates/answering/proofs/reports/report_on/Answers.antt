@@ -1,4 +1,3 @@
-use Rattle.std.proofs.Common.{◌≡◌, sym}
 use Rattle.day.specs.Models.{day_model}
 use Rattle.terms.specs.Models.{terms_model}
 use Rattle.answering.proofs.InRange.{bit_on}

@@ -1,4 +1,4 @@
-use Rattle.std.proofs.Common.{◌≡◌, [], ◌∙◌, arith, below_more}
+use Rattle.std.proofs.Common.{[], ◌∙◌, arith, below_more}
 use Rattle.bit_post.proofs.BitPost.new.Goals as goal
 
 pub loop-lane-preserved : goal.loop-lane-preserved

@@ -1,8 +1,7 @@
-use Rattle.std.proofs.Common.{◌≡◌, ℕ, ◌+◌, ◌<◌, ◌≤◌, [], ◌∷◌, ◌++◌, length, sym, refl, ap, ◌∙◌, subst, arith, rules}
+use Rattle.std.proofs.Common.{[], ◌∷◌, ◌++◌, length, sym, refl, ap, ◌∙◌, subst, arith}
 use Rattle.std.proofs.lemmas.List.{append-nil}
-use Rattle.post.specs.Tables.{slots_shown}
-use Rattle.wire.specs.Wires.{wire_lane, WireLane, copies, Outcome}
-use Rattle.bit_post.specs.Frames.{data_frame, acknowledgement, bit_of}
+use Rattle.wire.specs.Wires.{wire_lane, copies}
+use Rattle.bit_post.specs.Frames.{bit_of}
 use Rattle.bit_post.specs.Sending.{among}
 use Rattle.bit_post.proofs.Attempting.{answering_none, answering_frame, answering_ready, answering_more, answering_all, bit_back, data_small, arrivals_few, count}
 use Rattle.bit_post.proofs.exchange.attempt.Goals as goal

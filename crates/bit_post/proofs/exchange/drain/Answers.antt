@@ -1,4 +1,4 @@
-use Rattle.std.proofs.Common.{[], ◌∙◌, rules}
+use Rattle.std.proofs.Common.{[], rules}
 use Rattle.bit_post.proofs.exchange.drain.Goals as goal
 
 pub loop-taken-preserved : goal.loop-taken-preserved

@@ -1,4 +1,4 @@
-use Rattle.std.proofs.Common.{◌≡◌, ◌*◌, ◌<◌, ◌||◌, [], length}
+use Rattle.std.proofs.Common.{◌≡◌, ◌||◌, [], length}
 use Rattle.wire.specs.Wires.{wire_lane, Others}
 use Rattle.bit_post.specs.Sending.{among}
 use Rattle.bit_post.proofs.exchange.drain.Given as goal

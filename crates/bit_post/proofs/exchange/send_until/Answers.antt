@@ -1,4 +1,4 @@
-use Rattle.std.proofs.Common.{◌≡◌, [], ◌++◌, sym, refl, ap, ◌∙◌, inl, arith, rules}
+use Rattle.std.proofs.Common.{[], ◌++◌, sym, refl, ◌∙◌, inl, arith}
 use Rattle.bit_post.specs.Sending.{start}
 use Rattle.bit_post.specs.Running.{attempt_fails, failing_few}
 use Rattle.bit_post.proofs.Retrials.{delivery_ready, delivery_done, retry_more, retry_done}

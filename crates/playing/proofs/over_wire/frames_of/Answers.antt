@@ -1,4 +1,4 @@
-use Rattle.std.proofs.Common.{◌≡◌, ℕ, sym, ap, ◌∙◌, subst}
+use Rattle.std.proofs.Common.{◌≡◌, sym, ap, ◌∙◌, subst}
 use Rattle.bit_post.specs.declared.BitPost.{BitPost}
 use Rattle.bit_post.specs.Counted.{counts}
 use Rattle.playing.specs.Frames.{FramesByAttempts}

@@ -1,4 +1,4 @@
-use Rattle.std.proofs.Common.{◌≡◌, ℕ, [], sym, refl, ap, ◌∙◌, subst}
+use Rattle.std.proofs.Common.{[], sym, ap, ◌∙◌, subst}
 use Rattle.bit_post.specs.Counted.{counts}
 use Rattle.window.specs.Windows.{setting_for}
 use Rattle.playing.specs.Frames.{FramesByAttempts}

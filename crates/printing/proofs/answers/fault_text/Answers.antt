@@ -1,4 +1,4 @@
-use Rattle.std.proofs.Common.{[], ◌++◌, vec_items, codes, decimal, refl, ap, ◌∙◌}
+use Rattle.std.proofs.Common.{[], codes, decimal, refl, ap, ◌∙◌}
 use Rattle.fault.specs.Faults.{refusal_number, layer_name}
 use Rattle.reader.specs.Readings.{line}
 use Rattle.printing.specs.FaultLine.{fault_line}

@@ -1,4 +1,4 @@
-use Rattle.std.proofs.Common.{[], ◌++◌, length, vec_items, codes, decimal, refl, ap, ◌∙◌}
+use Rattle.std.proofs.Common.{◌++◌, length, vec_items, decimal, refl, ap, ◌∙◌}
 use Rattle.terms.specs.Models.{terms_model}
 use Rattle.reader.specs.Words.{marks_key, lots_key}
 use Rattle.reader.specs.Readings.{line}

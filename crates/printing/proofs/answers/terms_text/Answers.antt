@@ -1,4 +1,4 @@
-use Rattle.std.proofs.Common.{[], ◌++◌, vec_items, codes, decimal, refl, ap, ◌∙◌}
+use Rattle.std.proofs.Common.{[], decimal, refl, ◌∙◌}
 use Rattle.terms.specs.Models.{ladder_model}
 use Rattle.reader.specs.Words.{offices_key, grain_key, ladder_key, post_key}
 use Rattle.reader.specs.Readings.{line}

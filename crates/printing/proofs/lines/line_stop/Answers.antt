@@ -1,5 +1,4 @@
-use Rattle.std.proofs.Common.{◌≡◌, drop, arith}
-use Rattle.std.specs.List.{prefix_len}
+use Rattle.std.proofs.Common.{arith}
 use Rattle.std.proofs.lemmas.List.Sums.{prefix_len-drop_yes, prefix_len-drop_no, prefix_len-drop_all}
 use Rattle.printing.specs.FaultLine.{in_line}
 use Rattle.printing.proofs.LineAt.{inside, ends}

@@ -1,4 +1,4 @@
-use Rattle.std.proofs.Common.{◌≡◌, ◌++◌, vec_items, ap, ◌∙◌, arith}
+use Rattle.std.proofs.Common.{◌++◌, vec_items, ap, ◌∙◌, arith}
 use Rattle.std.proofs.lemmas.List.{take_all}
 use Rattle.reader.specs.Lists.{commas}
 use Rattle.printing.proofs.Joined.{put_first, put_more}

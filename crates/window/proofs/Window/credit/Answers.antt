@@ -1,4 +1,4 @@
-use Rattle.std.proofs.Common.{sym, refl, ◌∙◌}
+use Rattle.std.proofs.Common.{refl}
 use Rattle.window.proofs.Asking.{asked_figure}
 use Rattle.window.proofs.Window.credit.Goals as goal
 

@@ -1,9 +1,9 @@
-use Rattle.std.proofs.Common.{◌≡◌, ℕ, ◌≤◌, Bool, true, false, not, [], sym, refl, ap, ◌∙◌, subst}
+use Rattle.std.proofs.Common.{◌≡◌, Bool, true, false, not, [], sym, refl, ap, ◌∙◌}
 use Rattle.post.specs.Lanes.{Unused}
 use Rattle.window.specs.declared.books.Books.{Books}
 use Rattle.window.specs.Opening.{opened}
 use Rattle.window.specs.Turns.{at}
-use Rattle.window.specs.Windows.{setting_for, setting_in, ReachedBy}
+use Rattle.window.specs.Windows.{setting_in, ReachedBy}
 use Rattle.window.proofs.Lots.{even_opened}
 use Rattle.window.proofs.Until.{opened_held}
 use Rattle.window.proofs.Shown.{own_terms, to_reached}

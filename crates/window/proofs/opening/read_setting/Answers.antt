@@ -1,4 +1,4 @@
-use Rattle.std.proofs.Common.{◌≡◌, ℕ, ◌+◌, ◌<◌, ◌≤◌, List, length, get_or, sym, ◌∙◌, subst, arith}
+use Rattle.std.proofs.Common.{◌≡◌, ℕ, ◌+◌, ◌<◌, List, length, get_or, sym, ◌∙◌, subst, arith}
 use Rattle.ladder.specs.Laws.{LadderLaw}
 use Rattle.std.proofs.lemmas.Bool.{true≢false, le-leb}
 use Rattle.window.proofs.Opens.{read_more, read_laws, slack_is, slack_refused}

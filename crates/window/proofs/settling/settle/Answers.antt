@@ -1,4 +1,4 @@
-use Rattle.std.proofs.Common.{◌≡◌, sym, refl, ap, ◌∙◌, subst}
+use Rattle.std.proofs.Common.{sym, refl, ap, ◌∙◌, subst}
 use Rattle.post.specs.Outs.{Out, out}
 use Rattle.window.specs.Turns.{State, at, Settled, calm, again, stops}
 use Rattle.window.proofs.Falls.{turn_falls}

@@ -1,4 +1,4 @@
-use Rattle.std.proofs.Common.{Ok, sym, refl, ap, ◌∙◌}
+use Rattle.std.proofs.Common.{Ok, refl, ap, ◌∙◌}
 use Rattle.window.specs.Turns.{hear}
 use Rattle.window.proofs.Steps.{passed}
 use Rattle.window.proofs.Drains.{drain_done, drain_stop, drain_broke, drain_more, drain_falls, hear_holds}

@@ -1,4 +1,4 @@
-use Rattle.std.proofs.Common.{sym, refl, ap, ◌∙◌, rules}
+use Rattle.std.proofs.Common.{◌∙◌}
 use Rattle.window.proofs.Steps.{each_more, each_broke, each_done, each_none, passed}
 use Rattle.window.proofs.turns.signal.Goals as goal
 

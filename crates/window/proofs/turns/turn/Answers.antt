@@ -1,4 +1,4 @@
-use Rattle.std.proofs.Common.{sym, refl, ap, ◌∙◌}
+use Rattle.std.proofs.Common.{sym, ◌∙◌}
 use Rattle.window.specs.Turns.{turn}
 use Rattle.window.proofs.Steps.{went, broke, passed}
 use Rattle.window.proofs.turns.turn.Goals as goal

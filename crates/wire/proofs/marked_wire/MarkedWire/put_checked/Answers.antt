@@ -1,4 +1,3 @@
-use Rattle.std.proofs.Common.{refl}
 use Rattle.wire.specs.Marks.{outcome_of}
 use Rattle.wire.specs.Rows.{lanes_of}
 use Rattle.wire.specs.InUse.{lane_is, put_there, put_room, put_done}

@@ -1,8 +1,7 @@
-use Rattle.std.proofs.Common.{◌≡◌, [], ◌∷◌, ◌++◌, set, sym, refl, ap, ◌∙◌, arith}
+use Rattle.std.proofs.Common.{◌++◌, set, sym, refl, ap, ◌∙◌, arith}
 use Rattle.wire.specs.Wires.{wire_lane, copies}
 use Rattle.wire.specs.Marks.{outcome_of}
 use Rattle.wire.specs.Rows.{lane_of, lanes_of}
-use Rattle.wire.specs.declared.mark.Mark.{Mark}
 use Rattle.wire.specs.InUse.{lanes_length, lane_is, joined_none, joined_twice, joined_places}
 use Rattle.wire.proofs.rows.Rows.join_by_mark.Goals as goal
 

@@ -1,12 +1,10 @@
-use Rattle.std.proofs.Common.{◌≡◌, ℕ, ◌+◌, ◌*◌, ◌<◌, ◌≤◌, true, length, Ok, Err, sym, refl, ap, ◌∙◌, arith, length-set, rules}
+use Rattle.std.proofs.Common.{◌≡◌, ℕ, ◌+◌, ◌*◌, ◌<◌, length, Ok, sym, refl, ap, ◌∙◌, arith, length-set, rules}
 use Rattle.std.proofs.lemmas.Result.{err_from_is_err_and}
-use Rattle.fault.specs.declared.Fault.{Fault}
 use Rattle.post.specs.declared.lane_table.LaneTable.{LaneTable}
-use Rattle.post.specs.Lanes.{send_answer, joined, all_sent}
+use Rattle.post.specs.Lanes.{send_answer, all_sent}
 use Rattle.post.specs.Tables.{slots_shown, used}
 use Rattle.post.specs.Sends.{opened, all_sent_joined, send_refused, send_done}
-use Rattle.post.specs.Shown.{all_length, used_length, used_length_min, used_joined, may_send_whole, all_sent_most}
-use Rattle.bit_post.specs.Became.{Counts}
+use Rattle.post.specs.Shown.{used_length_min, used_joined, may_send_whole, all_sent_most}
 use Rattle.bit_post.specs.Becoming.{became_same, became_sent}
 use Rattle.bit_post.proofs.exchange.posting.BitPostPost.send.Goals as goal
 

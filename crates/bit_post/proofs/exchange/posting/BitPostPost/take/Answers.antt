@@ -1,4 +1,4 @@
-use Rattle.std.proofs.Common.{◌≡◌, ℕ, is_err, sym, refl, ap, ◌∙◌, arith}
+use Rattle.std.proofs.Common.{is_err, sym, refl, ap, ◌∙◌, arith}
 use Rattle.std.proofs.lemmas.Result.{err_from_is_err_and}
 use Rattle.post.specs.Lanes.{take, waiting_answer, all_sent}
 use Rattle.post.specs.Outs.{out}
