@@ -89,8 +89,8 @@ def fault_answer(fault, text):
     return answer_lines
 
 
-def answer(terms, day):
-    """Exactly what the program prints for these two texts."""
+def answer_by(told, terms, day):
+    """What is told of two good texts, given the terms as bytes and both as they are read; else the fault."""
     # The program never sees more than this many bytes of a text.
     terms = terms[:MOST_BYTES_READ]
     day = day[:MOST_BYTES_READ]
@@ -100,14 +100,20 @@ def answer(terms, day):
         if fault.layer == "terms":
             return fault_answer(fault, terms)
         return fault_answer(fault, day)
-    return report(play(good_terms, good_day))
+    return told(terms, good_terms, good_day)
 
 
-def main():
+def answer(terms, day):
+    """The report of the day, or the first fault."""
+    return answer_by(lambda _, good_terms, good_day: report(play(good_terms, good_day)), terms, day)
+
+
+def answer_table(answer_of):
+    """Answers the table on standard input, each answer followed by one empty line."""
     for terms, day in decode_table(sys.stdin.buffer.read()):
-        sys.stdout.buffer.write(answer(terms, day))
+        sys.stdout.buffer.write(answer_of(terms, day))
         sys.stdout.buffer.write(b"\n")
 
 
 if __name__ == "__main__":
-    main()
+    answer_table(answer)

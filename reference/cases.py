@@ -1,6 +1,7 @@
 # Writes the table of cases: pairs of texts, terms and day, for which answers are compared.
 #
 # The table is the same at every run, and no pair of texts stands in it twice.
+# With the word `texts` it stops before the days to be played.
 # The texts here are good or damaged texts to be read; days to be played are in played_days.py.
 
 import sys
@@ -561,20 +562,20 @@ def random_damaged():
 
 # ---- The table ----
 
-GROUPS = [
+TEXT_GROUPS = [
     good_texts, good_days, limits_of_terms, limits_of_tops, limits_of_divisors,
     seventeenth_divisor, limits_of_lots, specific_cases, numbers_in_terms, numbers_in_day,
     wrong_words, wrong_keys, wrong_marks, ends_of_marks, wrong_lots, many_lots, moved_lines,
     ends_of_texts, faults_in_both, long_texts, both_long, last_bytes_of_long_texts, long_days,
     long_lines, cut_pairs, changed_bytes, random_good, random_damaged,
-] + PLAYED_GROUPS
+]
 
 
-def all_cases():
+def cases_of(groups):
     """The cases of all groups, in order, each only where it comes first."""
     cases = []
     seen = set()
-    for group in GROUPS:
+    for group in groups:
         for case in group():
             if case not in seen:
                 seen.add(case)
@@ -583,7 +584,8 @@ def all_cases():
 
 
 def main():
-    for case_terms, case_day in all_cases():
+    groups = TEXT_GROUPS if sys.argv[1:] == ["texts"] else TEXT_GROUPS + PLAYED_GROUPS
+    for case_terms, case_day in cases_of(groups):
         sys.stdout.buffer.write(encode_case(case_terms, case_day))
 
 

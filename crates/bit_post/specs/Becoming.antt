@@ -1,4 +1,4 @@
--- How a post over a wire goes on from call to call.
+-- How a post over a wire goes on from call to call: lemmas that its impl cites, proved and nothing to believe.
 use Rattle.std.specs.Prelude.{◌≡◌, ℕ, ◌+◌, List, [], ◌++◌}
 use Rattle.std.proofs.Common.{ap, ◌∙◌, arith, length-append}
 use Rattle.wire.specs.Wires.{Outcome}

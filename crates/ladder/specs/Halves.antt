@@ -1,4 +1,4 @@
--- A grain doubled step by step makes a lawful ladder.
+-- A grain doubled step by step makes a lawful ladder: lemmas that an impl cites, proved and nothing to believe.
 use Rattle.std.specs.Prelude.{◌≡◌, ℕ, suc, ◌+◌, ◌-◌, ◌*◌, ◌%◌, ◌^◌, ◌<◌, ◌≤◌, Ok, nat_le}
 use Rattle.std.proofs.Common.{ap, sym, ◌∙◌, mul_left_comm, mul-le-mul_left, mod-eq_of_lt, arith, pow_mono}
 use Rattle.std.proofs.Math.Nat.{pow-succ'}

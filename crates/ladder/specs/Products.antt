@@ -1,4 +1,4 @@
--- Products of listed divisors: they make a lawful ladder, and none passes the top.
+-- Products of listed divisors make a lawful ladder, and none passes the top: lemmas that an impl cites, proved and nothing to believe.
 use Rattle.std.specs.Prelude.{◌≡◌, ℕ, zero, suc, ◌+◌, ◌*◌, ◌<◌, ◌≤◌, List, [], ◌∷◌, length, take, drop, Ok, nat_le, slice_index}
 use Rattle.std.proofs.Common.{ap, sym, subst, ◌∙◌, ⊎_elim, mul_left_comm, mul_assoc, mul-le-mul_left, mul-le-mul_right, arith}
 use Rattle.std.proofs.Math.Nat.{one-le-mul}

@@ -1,4 +1,4 @@
--- Sends and takes on a list of lanes.
+-- Sends and takes on a list of lanes: lemmas that an impl cites, proved and nothing to believe.
 use Rattle.std.specs.Prelude.{◌≡◌, ℕ, ◌+◌, ◌*◌, ◌<◌, ◌≤◌, Bool, true, false, cond, List, [], ◌∷◌, ◌++◌, length, take, replicate, Ok, Err, Option, Result, MatchOption, nat_le, slice_set, refl}
 use Rattle.std.proofs.Common.{sym, ap, ◌∙◌, arith, length-set}
 use Rattle.std.proofs.ByRecursion.{All-from_get_or, sum_by_le}

@@ -1,4 +1,4 @@
--- What a table shows, at one lane and at those in use.
+-- What a table shows, at one lane and at those in use: lemmas that an impl cites, proved and nothing to believe.
 use Rattle.std.specs.Prelude.{◌≡◌, ℕ, zero, suc, ◌*◌, ◌<◌, ◌≤◌, min, List, [], ◌∷◌, map, length, take, replicate, Ok, Result, slice_index_or, slice_set, refl}
 use Rattle.std.proofs.Common.{sym, ap, ◌∙◌, arith, length-take}
 use Rattle.std.proofs.lemmas.List.{get_or-map, get_or-take, length-map, length-take-le, map-set, take_all, take-replicate}

@@ -1,4 +1,4 @@
--- The lanes of rows of frames, and a put and a take on lanes where each frame takes one place. Assumes nothing.
+-- The lanes of rows of frames, and a put and a take where each frame takes one place: lemmas that impls cite, proved and nothing to believe.
 use Rattle.std.specs.Prelude.{◌≡◌, ℕ, zero, suc, ◌+◌, ◌*◌, ◌<◌, ◌≤◌, cond, List, [], ◌∷◌, ◌++◌, map, length, take, set, replicate, Some, None, Ok, Option, nat_le, nat_lt, slice_index_or, slice_set, refl}
 use Rattle.std.proofs.Common.{sym, ap, subst, ◌∙◌, arith}
 use Rattle.std.proofs.Math.Seq.{take-set-lt}

@@ -1,4 +1,4 @@
--- Marks that are read: what they cost, and which outcomes they give. Assumes nothing.
+-- Marks that are read, what they cost and which outcomes they give: lemmas that an impl cites, proved and nothing to believe.
 use Rattle.std.specs.Prelude.{◌≡◌, ℕ, zero, suc, ◌+◌, ◌<◌, ◌≤◌, List, [], ◌∷◌, ◌++◌, map, length, take, drop, replicate, slice_index, slice_index_or, refl}
 use Rattle.std.proofs.Common.{sym, ap, subst, ◌∙◌, zero-add, suc-add, arith}
 use Rattle.std.proofs.lemmas.List.{drop_more, drop_all, drop-drop, length-append, replicate-append-replicate, map_more, map_push, take_all}

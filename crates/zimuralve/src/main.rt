@@ -45,13 +45,7 @@ fn run(rt: &HostRuntime) -> anyhow::Result<()> {
     Ok(())
 }
 
-// A failure goes to standard error, and ends the program with status 1.
+// A failure is printed on standard error, and ends the program with status 1.
 fn main(rt: HostRuntime) -> anyhow::Result<()> {
-    match run(&rt) {
-        Ok(()) => Ok(()),
-        Err(error) => {
-            let _ = eprintln!(rt; "zimuralve: {error}");
-            Err(error)
-        }
-    }
+    run(&rt)
 }
