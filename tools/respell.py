@@ -4,14 +4,16 @@
 usage: python3 tools/respell.py          at the top of the repository, once, after the kit's port.py
 
 A name that a file of specs/ or a lemma file of proofs/ defines, and that has a dash, gets an underscore for
-each dash between two words. Names that begin with a capital, names of the standard library and names that the
-prover makes keep their spelling, and so do comments and strings. Planted bugs follow.
+each dash between two words; so does a name under which a file imports another. Names that begin with a capital,
+names of the standard library and names that the prover makes keep their spelling, and so do comments and strings.
+Planted bugs follow.
 """
 import os
 import re
 
 TOKEN = re.compile(r"[^\s(){}\[\];,.:|\"«»]+")
 DEFINED = re.compile(r"^\s*(?:(?:abbrev|unfoldable|pub|ghost) )*([^\s(){}\[\];,.:]*-[^\s(){}\[\];,.:]*) :", re.M)
+ALIAS = re.compile(r"\w+ as ([a-z][\w']*-[\w'-]*)")
 IMPORT = re.compile(r"^(?:ghost )?use Rattle\.(\w+)\.[^{;]*\{([^}]*)\}", re.M)
 ANSWERS = ("Answers.antt", "Invariants.antt", "Proof.antt")
 
@@ -65,7 +67,8 @@ def main():
     names = renamed()
     for path in files(".antt", ".rt", ".edit"):
         text = read(path)
-        new = respelled(text, names, "//" if path.endswith(".rt") else "-- ")
+        here = names | {alias: snake(alias) for alias in ALIAS.findall(text)}
+        new = respelled(text, here, "//" if path.endswith(".rt") else "-- ")
         if new != text:
             with open(path, "w", encoding="utf-8") as file:
                 file.write(new)
