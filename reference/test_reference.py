@@ -8,9 +8,11 @@ import traceback
 from answers import answer, play
 from building import below, day, lots_of, random_day, shuffled, source_of, terms
 from carriers import BitPost, DirectPost, MarkedWire, lane_down, lane_up
+from cases import SAMPLE_DAY, SAMPLE_TERMS
 from closed_forms import Figures, check_books, frames_for
 from internal_error import InternalError
 from ladders import halving_ladder, listed_ladder
+from summaries import summary
 from table import decode_case, encode_case
 from texts import Day, Terms, read_both
 from window import ACCEPTED, NO_SUCH_OFFICE, POST_USED, WINDOW_CLOSED, Window
@@ -294,6 +296,14 @@ def test_marks_change_only_the_frames():
             lines = answer(case_terms, marks + b"\n" + lots_line + b"\n").split(b"\n")
             reports.append(lines[:4] + lines[5:])
         assert reports[0] == reports[1] == reports[2]
+
+
+# ---- What the program prints ----
+
+def test_summary_counts_marks_and_lots():
+    expected = b"offices=3\ngrain=1\nladder=halving/2\npost=bit\nmarks=2\nlots=10\n"
+    assert summary(SAMPLE_TERMS, SAMPLE_DAY) == expected
+    assert summary(SAMPLE_TERMS, b"marks=\nlots=1,0\n") == answer(SAMPLE_TERMS, b"marks=\nlots=1,0\n")
 
 
 # ---- The table ----
