@@ -1,6 +1,6 @@
 -- What texts can say is within the makers' ranges. Assumes nothing.
 use Rattle.std.proofs.Common.{◌≡◌, ℕ, ◌+◌, ◌*◌, ◌^◌, ◌≤◌, Bool, true, false, ◌&&◌, List, [], ◌∷◌, length, IfOk, Some, None, Ok, Err, Result, sym, refl, ap, ◌∙◌, subst, mul_assoc, mul-le-mul, mul-le-mul_left, arith, length-append}
-use Rattle.std.specs.List.{AllByRecursion as All}
+use Rattle.std.specs.List.{AllByRecursion}
 use Rattle.std.proofs.lemmas.Bool.{le-leb, cond-true}
 use Rattle.fault.specs.declared.Fault.{Fault}
 use Rattle.ladder.specs.Makers.{within, halving_fault, divisors_fault, listed_fault}
@@ -35,11 +35,11 @@ pub halving_none : (g e : ℕ) → 1 ≤ g → g ≤ 8388608 → LadderInRange g
 halving_none g e low high r =
     cond-true _ _ _ (in_range 1 8388608 g low high) ∙ (cond-true _ _ _ (in_range 1 16 e r.0 r.1) ∙ cond-true _ _ _ (le-leb (g * 2 ^ e) 16777216 r.2))
 
-product_some : (ds : List ℕ) → All (λ d. (2 ≤ d) × (d ≤ 16)) ds → 1 ≤ product ds
+product_some : (ds : List ℕ) → AllByRecursion (λ d. (2 ≤ d) × (d ≤ 16)) ds → 1 ≤ product ds
 product_some [] r = omega arith
 product_some (d ∷ ds) r = let p : 1 * 1 ≤ d * product ds = mul-le-mul {n₁ = 1} {m₁ = 1} (omega (arith, r.0.0)) (product_some ds r.1) in omega arith
 
-divisors_none : (top : ℕ) (ds : List ℕ) → All (λ d. (2 ≤ d) × (d ≤ 16)) ds → top * product ds ≤ 16777216 → divisors_fault top ds ≡ None
+divisors_none : (top : ℕ) (ds : List ℕ) → AllByRecursion (λ d. (2 ≤ d) × (d ≤ 16)) ds → top * product ds ≤ 16777216 → divisors_fault top ds ≡ None
 divisors_none top [] r le = refl
 divisors_none top (d ∷ ds) r le =
     let e : top * (d * product ds) ≡ top * d * product ds = sym (mul_assoc top d (product ds)) in
@@ -52,7 +52,7 @@ listed_none g ds low high r =
     cond-true _ _ _ (in_range 1 8388608 g low high) ∙ (cond-true _ _ _ (in_range 1 16 (length ds) r.0 r.1) ∙ divisors_none g ds r.2 r.3)
 
 -- marks
-bytes_none : (i : ℕ) (marks : List ℕ) → All (λ m. of_kind Mark m ≡ true) marks → bytes_fault i marks ≡ None
+bytes_none : (i : ℕ) (marks : List ℕ) → AllByRecursion (λ m. of_kind Mark m ≡ true) marks → bytes_fault i marks ≡ None
 bytes_none i [] r = refl
 bytes_none i (b ∷ bs) r = cond-true _ _ _ r.0 ∙ bytes_none (i + 1) bs r.1
 

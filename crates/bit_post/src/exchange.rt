@@ -11,8 +11,6 @@ use wire::Wire;
 
 mod posting;
 
-use post::Post;
-
 // Below this a frame is a data frame, from here on an acknowledgement.
 const FIRST_ACKNOWLEDGEMENT: u16 = 512;
 

@@ -1,7 +1,7 @@
 -- A day is read from a text exactly where it is its own.
 use Rattle.std.proofs.Common.{◌≡◌, ℕ, ◌+◌, ◌<◌, ◌≤◌, true, false, not, ◌&&◌, eqb, ltb, leb, List, [], ◌∷◌, ◌++◌, length, drop, Ok, decimal, sym, refl, ap, ◌∙◌, subst, ⊎_elim, append_assoc, arith, length-append, length-drop}
 use Rattle.std.specs.Char.{is_ascii_digit}
-use Rattle.std.specs.List.{AllByRecursion as All}
+use Rattle.std.specs.List.{AllByRecursion}
 use Rattle.std.specs.Str.{all_ascii_digits}
 use Rattle.std.proofs.lemmas.Fmt.{decimal_nonempty, digits_decimal}
 use Rattle.std.proofs.lemmas.Bool.{cond-true, cond-false, cases_Bool, and_parts, and_from, and_right, leb-true, le-leb, ne_eqb}
@@ -23,7 +23,7 @@ use Rattle.day.specs.Written.{day_text, DayInRange}
 use Rattle.reader.proofs.ExactLists.{Each, numbers_sound, numbers_full}
 
 abbrev Marks : List ℕ → Type 0
-Marks = All (λ m. of_kind Mark m ≡ true)
+Marks = AllByRecursion (λ m. of_kind Mark m ≡ true)
 
 -- marks
 module _ (l : Layer) (t : List ℕ) where
@@ -59,17 +59,17 @@ module _ (k : ℕ) where
     abbrev EachLot : List ℕ → List ℕ → Type 0
     EachLot = Each item (λ _. Office) l t
 
-    each_tells : (is before : List ℕ) → EachLot before is → All Office is
+    each_tells : (is before : List ℕ) → EachLot before is → AllByRecursion Office is
     each_tells [] before a = tt
     each_tells (i ∷ is) before a = (a.0, each_tells is (before ++ i ∷ []) a.1)
 
-    each_from : (is before : List ℕ) → All Office is → EachLot before is
+    each_from : (is before : List ℕ) → AllByRecursion Office is → EachLot before is
     each_from [] before a = tt
     each_from (i ∷ is) before a = (a.0, each_from is (before ++ i ∷ []) a.1)
 
-    lots_sound : (p : ℕ) (x : List ℕ × ℕ) → lots k l t p ≡ Ok x → (drop p t ≡ commas x.0 ++ drop x.1 t) × All Office x.0
+    lots_sound : (p : ℕ) (x : List ℕ × ℕ) → lots k l t p ≡ Ok x → (drop p t ≡ commas x.0 ++ drop x.1 t) × AllByRecursion Office x.0
     lots_sound p x e =
-        let Good : List ℕ × ℕ → Type 0 = λ y. (drop p t ≡ commas y.0 ++ drop y.1 t) × All Office y.0 in
+        let Good : List ℕ × ℕ → Type 0 = λ y. (drop p t ≡ commas y.0 ++ drop y.1 t) × AllByRecursion Office y.0 in
         ⊎_elim
         (λ b.
         let s : ([], p) ≡ x = ok_same (sym (cond-true _ _ _ b) ∙ e) in subst Good s (refl, tt))
@@ -91,13 +91,13 @@ module _ (k : ℕ) where
     commas_begin i (j ∷ is) rest h =
         ap (λ m. ltb 0 (line_end m)) (append_assoc (decimal i) (comma ++ commas (j ∷ is)) rest) ∙ no_end (decimal i) _ (digits_decimal own i (omega arith)) (decimal_nonempty i (omega arith))
 
-    commas_long : (is : List ℕ) → k ≤ 64 → All Office is → length is ≤ length (commas is)
+    commas_long : (is : List ℕ) → k ≤ 64 → AllByRecursion Office is → length is ≤ length (commas is)
     commas_long [] few a = omega arith
     commas_long (i ∷ []) few a = omega (arith, decimal_nonempty i (omega (arith, a.0.1)))
     commas_long (i ∷ j ∷ is) few a =
         omega (arith, decimal_nonempty i (omega (arith, a.0.1)), commas_long (j ∷ is) few a.1, length-append (decimal i) (comma ++ commas (j ∷ is)))
 
-    lots_full : k ≤ 64 → (is rest : List ℕ) → All Office is → (p : ℕ) → drop p t ≡ commas is ++ (10 ∷ rest) → (q : ℕ) × (lots k l t p ≡ Ok (is, q)) × (drop q t ≡ 10 ∷ rest)
+    lots_full : k ≤ 64 → (is rest : List ℕ) → AllByRecursion Office is → (p : ℕ) → drop p t ≡ commas is ++ (10 ∷ rest) → (q : ℕ) × (lots k l t p ≡ Ok (is, q)) × (drop q t ≡ 10 ∷ rest)
     lots_full few [] rest a p d = (p, cond-true _ _ _ (ap (λ m. ltb 0 (line_end m)) d), d)
     lots_full few (i ∷ is) rest a p d =
         let none : ltb 0 (line_end (drop p t)) ≡ false = ap (λ m. ltb 0 (line_end m)) d ∙ commas_begin i is (10 ∷ rest) (omega (arith, a.0.1)) in
@@ -113,7 +113,7 @@ day_sound k t x e =
     let o = bind_inv (line_of lots_key (lots k) InDay t m.0.1) _ w.0 m.2 in
     let z = bind_inv (end_text InDay t o.0.1) _ w.0 o.2 in
     let ms = line_sound (λ m. m) Marks marks_key marks InDay t (marks_sound InDay t) 0 m.0 m.1 in
-    let os = line_sound commas (All (Office k)) lots_key (lots k) InDay t (lots_sound k InDay t) m.0.1 o.0 o.1 in
+    let os = line_sound commas (AllByRecursion (Office k)) lots_key (lots k) InDay t (lots_sound k InDay t) m.0.1 o.0 o.1 in
     let done = end_text_sound InDay t o.0.1 z.0 z.1 in
     let y : DayModel = record { marks = m.0.0; lots = o.0.0 } in
     let is : y ≡ x = ap (λ (v : DayModel × ℕ). v.0) (ok_same z.2) ∙ ok_same w.2 in
@@ -123,5 +123,5 @@ day_sound k t x e =
 pub day_full : (k : ℕ) → k ≤ 64 → (t : List ℕ) (x : DayModel) → t ≡ day_text x → DayInRange k x → read_day k t ≡ Ok x
 day_full k few t x e h =
     let m = line_full (λ m. m) Marks marks_key marks InDay t x.marks _ (marks_full InDay t x.marks _ h.marks) 0 e in
-    let o = line_full commas (All (Office k)) lots_key (lots k) InDay t x.lots [] (lots_full k InDay t few x.lots [] h.lots) m.0 m.2 in
+    let o = line_full commas (AllByRecursion (Office k)) lots_key (lots k) InDay t x.lots [] (lots_full k InDay t few x.lots [] h.lots) m.0 m.2 in
     bind_on _ (bind_on _ m.1 (bind_on _ o.1 (bind_on _ (end_text_full InDay t o.0 o.2) refl))) refl

@@ -12,9 +12,9 @@ abbrev pub lanes_over : {W : Type 0} (offices : W → ℕ) → BitPost W → Lis
 lanes_over offices p = used (offices p.wire) p.table
 
 -- So many messages took so many frames on a wire that had troubles of which some are left. The outcomes are what the wire did with each put; the attempts of the sends make exactly these puts.
-pub record FramesByAttempts (messages frames had left : ℕ) (wire-did : List Outcome → Type 0) : Type 0 where
+pub record FramesByAttempts (messages frames had left : ℕ) (wire_did : List Outcome → Type 0) : Type 0 where
   pub outcomes : List Outcome
-  pub did : wire-did outcomes
+  pub did : wire_did outcomes
   pub attempts : Sends messages outcomes
   pub count : frames ≡ length outcomes
   pub spent : had ≡ left + costs outcomes

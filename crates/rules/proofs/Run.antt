@@ -77,13 +77,13 @@ pub good : (l : Setting) → Sound l → (h : List ℕ) → Good l (ended l h) (
 good l ok h = run_good l ok h (opened l) (replicate l.offices 0) (good_open l ok)
 
 -- the counts
-get_d_at : (m x : ℕ) (ns : List ℕ) → m < length ns → get_or (at x (λ n. n + 1) ns) m 0 ≡ get_or ns m 0 + cond (eqb x m) 1 0
-get_d_at m zero [] i = absurd (omega arith)
-get_d_at m (suc x) [] i = absurd (omega arith)
-get_d_at zero zero (n ∷ ns) i = refl
-get_d_at (suc m) zero (n ∷ ns) i = rw (ne_eqb 0 (suc m) (λ e. omega arith)) (omega arith)
-get_d_at zero (suc x) (n ∷ ns) i = rw (ne_eqb (suc x) 0 (λ e. omega arith)) (omega arith)
-get_d_at (suc m) (suc x) (n ∷ ns) i = rw (eqb-suc-suc x m) (get_d_at m x ns (omega arith))
+get_or_at : (m x : ℕ) (ns : List ℕ) → m < length ns → get_or (at x (λ n. n + 1) ns) m 0 ≡ get_or ns m 0 + cond (eqb x m) 1 0
+get_or_at m zero [] i = absurd (omega arith)
+get_or_at m (suc x) [] i = absurd (omega arith)
+get_or_at zero zero (n ∷ ns) i = refl
+get_or_at (suc m) zero (n ∷ ns) i = rw (ne_eqb 0 (suc m) (λ e. omega arith)) (omega arith)
+get_or_at zero (suc x) (n ∷ ns) i = rw (ne_eqb (suc x) 0 (λ e. omega arith)) (omega arith)
+get_or_at (suc m) (suc x) (n ∷ ns) i = rw (eqb-suc-suc x m) (get_or_at m x ns (omega arith))
 
 and_false : (b : Bool) → ◌≡◌ {A = ℕ} (cond (b && false) 1 0) 0
 and_false true = refl
@@ -103,7 +103,7 @@ step_at l s ns m (suc x) i = go (is_ok (answer l s (suc x)))
     go true =
         let back : suc x - 1 ≡ x = omega arith in
         let up : m + 1 ≡ suc m = omega arith in
-        rw (back, up, eqb-suc-suc x m, and_true (eqb x m)) (get_d_at m x ns i)
+        rw (back, up, eqb-suc-suc x m, and_true (eqb x m)) (get_or_at m x ns i)
 
 length_next : (l : Setting) (s : State) (ns : List ℕ) (x : ℕ) → length (next_counts l s ns x) ≡ length ns
 length_next l s ns x = go (is_ok (answer l s x))
@@ -123,17 +123,17 @@ count_at l h m i =
     omega (arith, tally_at l h (opened l) (replicate l.offices 0) m (omega (arith, length-replicate {A = ℕ} l.offices 0)), get_or-replicate {A = ℕ} l.offices m 0 0 i)
 
 -- sums over places and sums over numbers
-sumTo_first : (n : ℕ) (g : ℕ → ℕ) → sum_to (suc n) g ≡ g 1 + sum_to n (λ i. g (suc i))
-sumTo_first zero g = omega arith
-sumTo_first (suc n) g = omega (arith, sumTo_first n g)
+sum_to_first : (n : ℕ) (g : ℕ → ℕ) → sum_to (suc n) g ≡ g 1 + sum_to n (λ i. g (suc i))
+sum_to_first zero g = omega arith
+sum_to_first (suc n) g = omega (arith, sum_to_first n g)
 
-total_sumTo : (f : ℕ → ℕ) (ns : List ℕ) (c : ℕ → ℕ) → ((m : ℕ) → m < length ns → get_or ns m 0 ≡ c (suc m)) → total f ns ≡ sum_to (length ns) (λ i. f (c i))
-total_sumTo f [] c e = refl
-total_sumTo f (n ∷ ns) c e =
-    omega (arith, total_sumTo f ns (λ i. c (suc i)) (λ m i. e (suc m) (omega arith)), sumTo_first (length ns) (λ i. f (c i)), ap f (e 0 (omega arith)))
+total_sum_to : (f : ℕ → ℕ) (ns : List ℕ) (c : ℕ → ℕ) → ((m : ℕ) → m < length ns → get_or ns m 0 ≡ c (suc m)) → total f ns ≡ sum_to (length ns) (λ i. f (c i))
+total_sum_to f [] c e = refl
+total_sum_to f (n ∷ ns) c e =
+    omega (arith, total_sum_to f ns (λ i. c (suc i)) (λ m i. e (suc m) (omega arith)), sum_to_first (length ns) (λ i. f (c i)), ap f (e 0 (omega arith)))
 
 pub total_counts : (l : Setting) → Sound l → (h : List ℕ) (f : ℕ → ℕ) → total f (counts l h) ≡ sum_to l.offices (λ i. f (count l h i))
 total_counts l ok h f =
     let size : length (counts l h) ≡ l.offices = (good l ok h).size in
-    total_sumTo f (counts l h) (count l h) (λ m i. let up : m + 1 ≡ suc m = omega arith in count_at l h m (omega arith) ∙ ap (count l h) up)
+    total_sum_to f (counts l h) (count l h) (λ m i. let up : m + 1 ≡ suc m = omega arith in count_at l h m (omega arith) ∙ ap (count l h) up)
     ∙ ap (λ n. sum_to n (λ i. f (count l h i))) size

@@ -1,6 +1,6 @@
 -- Terms are read from a text exactly where it is theirs.
 use Rattle.std.proofs.Common.{◌≡◌, ℕ, ◌+◌, ◌*◌, ◌<◌, ◌≤◌, Bool, true, ◌&&◌, leb, List, [], ◌∷◌, ◌++◌, length, take, drop, Ok, Err, decimal, Result, sym, refl, ap, ◌∙◌, subst, ⊎_elim, mul_assoc, mul-le-mul_left, mul-one, arith}
-use Rattle.std.specs.List.{AllByRecursion as All}
+use Rattle.std.specs.List.{AllByRecursion}
 use Rattle.std.specs.Str.{bytes_eq}
 use Rattle.std.proofs.lemmas.Bool.{cond-true, cond-false, cases_Bool, and_parts, and_from, leb-true, le-leb}
 use Rattle.fault.specs.declared.Fault.{Fault}
@@ -53,7 +53,7 @@ module _ (g : ℕ) where
   abbrev EachDivisor : Layer → List ℕ → List ℕ → List ℕ → Type 0
   EachDivisor l t = Each item Allowed l t
 
-  each_tells : (l : Layer) (t : List ℕ) (ds before : List ℕ) → 1 ≤ length ds → EachDivisor l t before ds → All Small ds × ((g * product before) * product ds ≤ most_top)
+  each_tells : (l : Layer) (t : List ℕ) (ds before : List ℕ) → 1 ≤ length ds → EachDivisor l t before ds → AllByRecursion Small ds × ((g * product before) * product ds ≤ most_top)
   each_tells l t [] before some a = absurd (omega arith)
   each_tells l t (d ∷ []) before some a = ((a.0.0, tt), rw mul-one a.0.1)
   each_tells l t (d ∷ e ∷ ds) before some a =
@@ -61,11 +61,11 @@ module _ (g : ℕ) where
       let same : (g * product (before ++ d ∷ [])) * product (e ∷ ds) ≡ (g * product before) * product (d ∷ e ∷ ds) = ap (λ n. n * product (e ∷ ds)) (sym (whole_push before d)) ∙ mul_assoc (g * product before) d (product (e ∷ ds)) in
       ((a.0.0, h.0), rw same at h.1)
 
-  product_pos : (ds : List ℕ) → All Small ds → 1 ≤ product ds
+  product_pos : (ds : List ℕ) → AllByRecursion Small ds → 1 ≤ product ds
   product_pos [] h = omega arith
   product_pos (d ∷ ds) h = omega (arith, mul-le-mul_left d (product_pos ds h.1), h.0.0)
 
-  each_from : (l : Layer) (t : List ℕ) (ds before : List ℕ) → All Small ds → (g * product before) * product ds ≤ most_top → EachDivisor l t before ds
+  each_from : (l : Layer) (t : List ℕ) (ds before : List ℕ) → AllByRecursion Small ds → (g * product before) * product ds ≤ most_top → EachDivisor l t before ds
   each_from l t [] before small most = tt
   each_from l t (d ∷ ds) before small most =
       let most' : ((g * product before) * d) * product ds ≤ most_top = rw mul_assoc most in

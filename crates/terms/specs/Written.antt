@@ -1,6 +1,6 @@
 -- The text of given terms, and which terms there are. Assumes nothing.
 use Rattle.std.specs.Prelude.{ℕ, ◌*◌, ◌^◌, ◌≤◌, List, [], ◌++◌, length, decimal}
-use Rattle.std.specs.List.{AllByRecursion as All}
+use Rattle.std.specs.List.{AllByRecursion}
 use Rattle.ladder.specs.Slacks.{product}
 use Rattle.reader.specs.Lists.{commas}
 use Rattle.reader.specs.Readings.{line}
@@ -28,7 +28,7 @@ terms_text x =
 -- the ladders over a grain
 abbrev pub LadderInRange : ℕ → LadderModel → Type 0
 LadderInRange g (halving e) = (1 ≤ e) × (e ≤ 16) × (g * 2 ^ e ≤ most_top)
-LadderInRange g (listed ds) = (1 ≤ length ds) × (length ds ≤ 16) × All (λ d. (2 ≤ d) × (d ≤ 16)) ds × (g * product ds ≤ most_top)
+LadderInRange g (listed ds) = (1 ≤ length ds) × (length ds ≤ 16) × AllByRecursion (λ d. (2 ≤ d) × (d ≤ 16)) ds × (g * product ds ≤ most_top)
 
 pub record TermsInRange (x : TermsModel) : Type 0 where
   pub offices_low : 1 ≤ x.offices

@@ -24,7 +24,7 @@ abbrev pub started : ℕ → Books → Books
 started i b = in_coordinator b i (record { step = b.coordinator.step + 1; signals = 0; closed = false })
 
 -- the books after the signals that the start brought
-pub record Moved-on (i : ℕ) (b b' : Books) : Type 0 where
+pub record MovedOn (i : ℕ) (b b' : Books) : Type 0 where
   pub setting : b'.setting ≡ b.setting
   pub coordinator : b'.coordinator ≡ record { step = b.coordinator.step + 1; signals = sumq (λ n. whole b.setting (office (started i b) n)) b.setting.offices; closed = false }
   pub records : (n : ℕ) → n < b.setting.offices → office b' n ≡ record {
@@ -42,7 +42,7 @@ pub record Carried (i : ℕ) (q : ℕ → ℕ) (d : ℕ) (s v : State) : Type 0 
 pub data After (i : ℕ) (s : State) : State → Type 0 where
   goes_on : {v : State} → (s.books.coordinator.signals + 1 ≡ quota s.books.setting s.books.coordinator.step → ⊥) → v.books ≡ in_coordinator s.books i (record { step = s.books.coordinator.step; signals = s.books.coordinator.signals + 1; closed = false }) → Carried i (λ n. 0) 0 s v → After i s v
   ends : {v : State} → s.books.coordinator.signals + 1 ≡ quota s.books.setting s.books.coordinator.step → s.books.setting.steps ≤ s.books.coordinator.step → v.books ≡ in_coordinator s.books i (record { step = s.books.coordinator.step; signals = s.books.coordinator.signals + 1; closed = true }) → Carried i (λ n. 0) 1 s v → After i s v
-  moves_on : {v : State} → s.books.coordinator.signals + 1 ≡ quota s.books.setting s.books.coordinator.step → s.books.coordinator.step < s.books.setting.steps → Moved-on i s.books v.books → Carried i (λ n. whole s.books.setting (office (started i s.books) n)) 1 s v → After i s v
+  moves_on : {v : State} → s.books.coordinator.signals + 1 ≡ quota s.books.setting s.books.coordinator.step → s.books.coordinator.step < s.books.setting.steps → MovedOn i s.books v.books → Carried i (λ n. whole s.books.setting (office (started i s.books) n)) 1 s v → After i s v
 
 -- after an accepted lot
 pub data Accepted (i : ℕ) (s : State) : State → Type 0 where

@@ -131,18 +131,18 @@ unfolding once
 once_long ls j = length-set ls j _
 
 -- a byte to each of k offices, whose lanes are empty
-pub record All-told (k b : ℕ) (ls ls' : List Lane) : Type 0 where
+pub record AllTold (k b : ℕ) (ls ls' : List Lane) : Type 0 where
   pub long : length ls' ≡ length ls
   pub up : (n : ℕ) → lane ls' (2 * n) ≡ lane ls (2 * n)
   pub down : (n : ℕ) → n < k → lane ls' (2 * n + 1) ≡ record { waiting = b ∷ []; sent = (lane ls (2 * n + 1)).sent + 1 }
   pub later : (n : ℕ) → k ≤ n → lane ls' (2 * n + 1) ≡ lane ls (2 * n + 1)
 
-pub tell_fine : (k b : ℕ) (ls : List Lane) → length ls ≡ 2 * k → ((n : ℕ) → n < k → (lane ls (2 * n + 1)).waiting ≡ []) → ((n : ℕ) → n < k → (lane ls (2 * n + 1)).sent < 65535) → (ls' : List Lane) × (tell k b ls ≡ fine ls') × All-told k b ls ls'
+pub tell_fine : (k b : ℕ) (ls : List Lane) → length ls ≡ 2 * k → ((n : ℕ) → n < k → (lane ls (2 * n + 1)).waiting ≡ []) → ((n : ℕ) → n < k → (lane ls (2 * n + 1)).sent < 65535) → (ls' : List Lane) × (tell k b ls ≡ fine ls') × AllTold k b ls ls'
 tell_fine k b ls long none few =
-    each_from (λ i. send (2 * i + 1) b) (λ m ls'. All-told m b ls ls') k ls step
+    each_from (λ i. send (2 * i + 1) b) (λ m ls'. AllTold m b ls ls') k ls step
     (record { long = refl; up = λ n. refl; down = λ n to. absurd (omega arith); later = λ n _. refl })
   where
-    step : (m : ℕ) (t : List Lane) → m < k → All-told m b ls t → (u : List Lane) × (send (2 * m + 1) b t ≡ fine u) × All-told (m + 1) b ls u
+    step : (m : ℕ) (t : List Lane) → m < k → AllTold m b ls t → (u : List Lane) × (send (2 * m + 1) b t ≡ fine u) × AllTold (m + 1) b ls u
     step m t to inv =
         let here = inv.later m (omega arith) in
         let none' : (lane t (2 * m + 1)).waiting ≡ [] = ap (λ (l : Lane). l.waiting) here ∙ none m (omega arith) in

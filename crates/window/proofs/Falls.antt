@@ -17,7 +17,7 @@ use Rattle.window.specs.declared.books.Message.TheVariants.{Signal, Start, Close
 use Rattle.window.specs.Parts.{Heard, heard, heard_of, message, Followed, followed, followed_of, moved, signalled, office, no_office, slack, in_coordinator}
 use Rattle.window.proofs.Steps.{each_keeps}
 use Rattle.window.proofs.Drains.{Holds, hear_holds, follow_holds}
-use Rattle.window.specs.Turns.{State, at, tell, signal, with_each, drain, replies, hear, follow, coordinator_part, office_part, turn, Waits-at, Busy}
+use Rattle.window.specs.Turns.{State, at, tell, signal, with_each, drain, replies, hear, follow, coordinator_part, office_part, turn, WaitsAt, Busy}
 
 pub held : Lane → ℕ
 held l = length l.waiting
@@ -312,7 +312,7 @@ even_apart a b e = omega arith
 odd_apart : (a b : ℕ) → 2 * a + 1 ≡ 2 * b + 1 → a ≡ b
 odd_apart a b e = omega arith
 
-turn_on : (s : State) (k i : ℕ) → i < k → k ≡ s.books.setting.offices → Waits-at i s.lanes → (a : Result (Unit {0}) Fault) → (coordinator_part k s).answer ≡ a → {x : Unit {0}} → (go_on a (coordinator_part k s).state (λ t _. office_part t.books.setting.offices t)).answer ≡ Ok x → potential (go_on a (coordinator_part k s).state (λ t _. office_part t.books.setting.offices t)).state < potential s
+turn_on : (s : State) (k i : ℕ) → i < k → k ≡ s.books.setting.offices → WaitsAt i s.lanes → (a : Result (Unit {0}) Fault) → (coordinator_part k s).answer ≡ a → {x : Unit {0}} → (go_on a (coordinator_part k s).state (λ t _. office_part t.books.setting.offices t)).answer ≡ Ok x → potential (go_on a (coordinator_part k s).state (λ t _. office_part t.books.setting.offices t)).state < potential s
 unfolding held
 turn_on s k i less same busy (Err e) is ok = let z : ◌≡◌ {A = ℕ} 0 1 = cc in absurd (omega arith)
 turn_on s k i less same busy (Ok u) is ok =

@@ -10,7 +10,7 @@ use Rattle.window.specs.Turns.{State}
 use Rattle.window.proofs.Even.{Even}
 
 -- a window's setting is that of the rules
-pub record Same-terms (l : Setting) (t : SettingTable) : Type 0 where
+pub record SameTerms (l : Setting) (t : SettingTable) : Type 0 where
   pub offices : t.offices ≡ l.offices
   pub steps : t.steps ≡ l.steps
   pub slacks : (j : ℕ) → j ≤ l.steps → slack t j ≡ l.slack j
@@ -29,7 +29,7 @@ pub record Shows (k : ℕ) (r : Rules-state) (s : State) : Type 0 where
 -- the lots h led here from an unused post; no lane holds anything
 pub record Held (l : Setting) (h : List ℕ) (used : Bool) (s : State) : Type 0 where
   pub fresh : used ≡ false
-  pub setting : Same-terms l s.books.setting
+  pub setting : SameTerms l s.books.setting
   pub even : Even s
   pub shows : Shows l.offices (ended l h) s
 

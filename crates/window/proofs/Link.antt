@@ -20,10 +20,10 @@ use Rattle.window.specs.Parts.{office, no_office, slack, quota, in_coordinator, 
 use Rattle.window.specs.Turns.{State, at}
 use Rattle.window.proofs.After.{moved_record, whole, sumq, started, Carried, After, goes_on, ends, moves_on, Accepted, counts, signals}
 use Rattle.window.proofs.Even.{Even}
-use Rattle.window.proofs.Held.{Same-terms, Shows, Held, Next}
+use Rattle.window.proofs.Held.{SameTerms, Shows, Held, Next}
 
 -- the setting of a window is sound
-pub sound : (l : Setting) (t : SettingTable) → Same-terms l t → Sound l
+pub sound : (l : Setting) (t : SettingTable) → SameTerms l t → Sound l
 sound l t same = record {
   k_low = omega (arith, same.offices, t.some);
   k_high = omega (arith, same.offices, t.few);
@@ -131,7 +131,7 @@ module _ (k : ℕ) (r : Rules-state) (coordinator : Rules-coordinator) (c a u d 
   }
 
 module _ (l : Setting) (ok : Sound l) (j sg m : ℕ) (ds : List Account) (os : List Rules-office) (ns : List ℕ) (i : Inv l j sg true ds os ns) (within : m < l.offices)
-    (s : State) (setting : Same-terms l s.books.setting) (even : Even s) (sh : Shows l.offices (state (coordinator_at j sg true) ds os) s) where
+    (s : State) (setting : SameTerms l s.books.setting) (even : Even s) (sh : Shows l.offices (state (coordinator_at j sg true) ds os) s) where
   abbrev b : Books
   b = s.books
 
@@ -252,7 +252,7 @@ module _ (l : Setting) (ok : Sound l) (j sg m : ℕ) (ds : List Account) (os : L
 
 -- a rules state that is open
 module _ (l : Setting) (ok : Sound l) (r : Rules-state) (ns : List ℕ) (good-r : Good l r ns) (m : ℕ) (within : m < l.offices) (going : r.coordinator.is_open ≡ true)
-    (s : State) (setting : Same-terms l s.books.setting) (even : Even s) (sh : Shows l.offices r s) where
+    (s : State) (setting : SameTerms l s.books.setting) (even : Even s) (sh : Shows l.offices r s) where
   open_shows : (v : State) → Accepted m s v → (Shows l.offices (two_turns l (rules_counted l r m)) v) × (v.books.setting ≡ s.books.setting)
   open_shows v acc =
       let is : r ≡ state (coordinator_at r.coordinator.step r.coordinator.signals true) r.accounts r.offices = ap (λ b. state (coordinator_at r.coordinator.step r.coordinator.signals b) r.accounts r.offices) going in
@@ -302,6 +302,6 @@ module _ (l : Setting) (h : List ℕ) (used : Bool) (s : State) (re : Held l h u
       let ok = sound l t re.setting in
       let z = open_shows l ok (ended l h) (Counts-of l h) (good l ok h) (n - 1) (omega (arith, re.setting.offices)) is_open s re.setting re.even re.shows v acc in
       record {
-        reached = record { fresh = re.fresh; setting = subst (Same-terms l) (sym z.1) re.setting; even = even_v; shows = subst (λ r. Shows l.offices r v) (sym (run_more l (rules_opened l) h n ∙ goes)) z.0 };
+        reached = record { fresh = re.fresh; setting = subst (SameTerms l) (sym z.1) re.setting; even = even_v; shows = subst (λ r. Shows l.offices r v) (sym (run_more l (rules_opened l) h n ∙ goes)) z.0 };
         answer = sym yes;
       }

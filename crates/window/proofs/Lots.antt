@@ -11,10 +11,10 @@ use Rattle.window.specs.declared.checked_books.CheckedBooks.{CheckedBooks}
 use Rattle.window.specs.declared.books.OfficeRecord.{OfficeRecord}
 use Rattle.window.specs.Parts.{Heard, heard_of, signalled, office, no_office, slack, quota, in_coordinator, due, counted}
 use Rattle.window.specs.Turns.{State, at, with_lanes, tell, replies, coordinator_part, office_part, turn, signal_and_settle, accepted}
-use Rattle.window.proofs.After.{moved_record, whole, sumq, Moved-on, After, goes_on, ends, moves_on, Accepted, counts, signals}
+use Rattle.window.proofs.After.{moved_record, whole, sumq, MovedOn, After, goes_on, ends, moves_on, Accepted, counts, signals}
 use Rattle.window.proofs.Even.{Empty, Even}
 use Rattle.window.specs.Opening.{opened}
-use Rattle.window.proofs.Calm.{then_fine, once, once_empty, once_long, ready, signalled_on, settle_signal, All-told, tell_fine, close_part, office_skip, empty_turn}
+use Rattle.window.proofs.Calm.{then_fine, once, once_empty, once_long, ready, signalled_on, settle_signal, AllTold, tell_fine, close_part, office_skip, empty_turn}
 use Rattle.window.proofs.Starts.{Moving, Crediting, start_part, sumq_less, credit_part}
 
 -- the record of an office after a credit: its step and its remainder stay
@@ -171,7 +171,7 @@ module _ (i : ℕ) (s : State) (even : Even s) (less : i < s.books.setting.offic
     tall_next : length next_books.table ≡ 64
     tall_next = length-set s.books.table i _ ∙ even.tall
 
-    module _ (ls : List Lane) (followed : tell s.books.setting.offices (64 + (s.books.coordinator.step + 1)) (once s.lanes (2 * i)) ≡ fine ls) (all : All-told s.books.setting.offices (64 + (s.books.coordinator.step + 1)) (once s.lanes (2 * i)) ls) where
+    module _ (ls : List Lane) (followed : tell s.books.setting.offices (64 + (s.books.coordinator.step + 1)) (once s.lanes (2 * i)) ≡ fine ls) (all : AllTold s.books.setting.offices (64 + (s.books.coordinator.step + 1)) (once s.lanes (2 * i)) ls) where
       long_t : length ls ≡ 2 * s.books.setting.offices
       long_t = all.long ∙ once_long s.lanes (2 * i) ∙ even.empty.long
 
@@ -221,7 +221,7 @@ module _ (i : ℕ) (s : State) (even : Even s) (less : i < s.books.setting.offic
                 level = λ n l. let l' : n < s.books.setting.offices = omega (arith, k_v) in ap (λ (o : OfficeRecord). o.step) (c.records n l') ∙ ap (λ (o : OfficeRecord). o.step) (mv.records n l') ∙ behind n l' ∙ sym step_v;
               }
 
-          moved_on : Moved-on i s.books v.books
+          moved_on : MovedOn i s.books v.books
           unfolding moved_record
           moved_on = record {
             setting = c.setting ∙ mv.setting;

@@ -20,7 +20,7 @@ use Rattle.window.specs.declared.books.OfficeRecord.{OfficeRecord}
 use Rattle.window.specs.Parts.{office, slack, no_office as no_record}
 use Rattle.window.specs.Turns.{State, at}
 use Rattle.window.specs.Windows.{setting_in, shown, ReachedBy}
-use Rattle.window.proofs.Held.{Same-terms, Held, Next}
+use Rattle.window.proofs.Held.{SameTerms, Held, Next}
 use Rattle.window.proofs.Link.{sound}
 
 -- the lanes two by two
@@ -77,7 +77,7 @@ divisor_in t j low high =
     ap (λ x. x / (setting_in t).slack j) (cond-true _ _ _ (le-leb (j - 1) t.steps (omega arith)))
     ∙ ap (λ x. slack t (j - 1) / x) (cond-true _ _ _ (le-leb j t.steps high))
 
-pub own_terms : (t : SettingTable) → Same-terms (setting_in t) t
+pub own_terms : (t : SettingTable) → SameTerms (setting_in t) t
 own_terms t = record {
   offices = refl;
   steps = refl;
@@ -86,8 +86,8 @@ own_terms t = record {
 }
 
 -- two tables with the same slacks
-pub same_setting : (l : Setting) (t : SettingTable) → l ≡ setting_in t → Same-terms l t
-same_setting l t e = subst (λ l. Same-terms l t) (sym e) (own_terms t)
+pub same_setting : (l : Setting) (t : SettingTable) → l ≡ setting_in t → SameTerms l t
+same_setting l t e = subst (λ l. SameTerms l t) (sym e) (own_terms t)
 
 -- no account and no office has anything on its lane between two lots
 up_empty : (l : Setting) (j m : ℕ) {ps : List Account} {os : List Office} {ns : List ℕ} → Fit l j ps os ns → m < length ns → (get_or ps m no_account).up.waiting ≡ []

@@ -17,7 +17,7 @@ use Rattle.window.specs.Turns.{State, at, with_lanes, turn, settle, signal_and_s
 use Rattle.window.specs.Opening.{opened}
 use Rattle.window.proofs.After.{Accepted}
 use Rattle.window.proofs.Even.{Empty, Even}
-use Rattle.window.proofs.Held.{Held, Next, Same-terms}
+use Rattle.window.proofs.Held.{Held, Next, SameTerms}
 use Rattle.window.proofs.Link.{unknown_next, shut_next, accepted_next}
 use Rattle.window.proofs.Shown.{lane_few}
 use Rattle.window.proofs.Calm.{empty_turn}
@@ -173,10 +173,10 @@ place_few used n i b is =
     omega (arith, z.3, b.setting.few)
 
 -- a window opened on an unused post
-pub opened_held : (l : Setting) (t : SettingTable) (ls : List Lane) (b : Books) (used : Bool) → Same-terms l t → b ≡ opened t → used ≡ false → Unused ls → Even (at b ls) → Held l [] used (at b ls)
+pub opened_held : (l : Setting) (t : SettingTable) (ls : List Lane) (b : Books) (used : Bool) → SameTerms l t → b ≡ opened t → used ≡ false → Unused ls → Even (at b ls) → Held l [] used (at b ls)
 opened_held l t ls b used same is fresh unused even = record {
   fresh = fresh;
-  setting = subst (λ b. Same-terms l b.setting) (sym is) same;
+  setting = subst (λ b. SameTerms l b.setting) (sym is) same;
   even = even;
   shows = record {
     step = ap (λ (b : Books). b.coordinator.step) is;

@@ -64,11 +64,11 @@ unfoldable pub turn : State → Out State (Unit {0})
 turn s = then (coordinator_part s.books.setting.offices s) (λ t _. office_part t.books.setting.offices t)
 
 -- a message waits on a lane of office i
-abbrev pub Waits-at : ℕ → List Lane → Type 0
-Waits-at i ls = (0 < length (lane ls (2 * i)).waiting) ⊎ (0 < length (lane ls (2 * i + 1)).waiting)
+abbrev pub WaitsAt : ℕ → List Lane → Type 0
+WaitsAt i ls = (0 < length (lane ls (2 * i)).waiting) ⊎ (0 < length (lane ls (2 * i + 1)).waiting)
 
 abbrev pub Busy : State → Type 0
-Busy s = (i : ℕ) × (i < s.books.setting.offices) × Waits-at i s.lanes
+Busy s = (i : ℕ) × (i < s.books.setting.offices) × WaitsAt i s.lanes
 
 abbrev pub Calm : State → Type 0
 Calm s = (i : ℕ) → i < s.books.setting.offices → ((lane s.lanes (2 * i)).waiting ≡ []) × ((lane s.lanes (2 * i + 1)).waiting ≡ [])

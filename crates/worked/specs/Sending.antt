@@ -8,7 +8,7 @@ use Rattle.bit_post.specs.Sending.{same_bit}
 
 -- an attempt puts the data frame, and an acknowledgement for each time that it arrives
 abbrev pub attempt_frames : Bool → ℕ → {acknowledged : Bool} {outcomes : List Outcome} → Attempt acknowledged outcomes → List ℕ
-attempt_frames bit byte (attempt a data-outcome acks long any) = data_frame bit byte ∷ replicate (length acks) (acknowledgement bit)
+attempt_frames bit byte (attempt a data_outcome acks long any) = data_frame bit byte ∷ replicate (length acks) (acknowledgement bit)
 
 abbrev pub send_frames : Bool → ℕ → {outcomes : List Outcome} → Send outcomes → List ℕ
 send_frames bit byte (done xs a) = attempt_frames bit byte a
@@ -16,7 +16,7 @@ send_frames bit byte (again xs ys a s) = attempt_frames bit byte a ++ send_frame
 
 -- the data frames that arrive at the far end
 abbrev pub attempt_arrivals : Bool → ℕ → {acknowledged : Bool} {outcomes : List Outcome} → Attempt acknowledged outcomes → List ℕ
-attempt_arrivals bit byte (attempt a data-outcome acks long any) = replicate (arrivals data-outcome) (data_frame bit byte)
+attempt_arrivals bit byte (attempt a data_outcome acks long any) = replicate (arrivals data_outcome) (data_frame bit byte)
 
 abbrev pub send_arrivals : Bool → ℕ → {outcomes : List Outcome} → Send outcomes → List ℕ
 send_arrivals bit byte (done xs a) = attempt_arrivals bit byte a

@@ -4,6 +4,7 @@
 use anyhow::anyhow;
 use printing::answer;
 use std::io::{ErrorKind, Read, Write};
+use std::process::ExitCode;
 use std::{fs, io};
 
 // One byte more than a text may have, so that a text that is too long is seen to be.
@@ -45,7 +46,13 @@ fn run(rt: &HostRuntime) -> anyhow::Result<()> {
     Ok(())
 }
 
-// A failure is printed on standard error, and ends the program with status 1.
-fn main(rt: HostRuntime) -> anyhow::Result<()> {
-    run(&rt)
+// A failure goes to standard error, and ends the program with status 1.
+fn main(rt: HostRuntime) -> ExitCode {
+    match run(&rt) {
+        Ok(()) => ExitCode::SUCCESS,
+        Err(error) => {
+            let _ = eprintln!(rt; "zimuralve: {error}");
+            ExitCode::FAILURE
+        }
+    }
 }
