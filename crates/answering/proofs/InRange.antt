@@ -7,8 +7,8 @@ use Rattle.ladder.specs.Makers.{within, halving_fault, divisors_fault, listed_fa
 use Rattle.ladder.specs.Slacks.{product}
 use Rattle.reader.specs.declared.byte_kind.ByteKind.TheVariants.{Mark}
 use Rattle.reader.specs.Bytes.{of_kind}
-use Rattle.reader.specs.declared.read_error.ReadError.{ReadError}
-use Rattle.reader.specs.declared.read_error.ReadError.TheVariants.{Faulty, NoMemory}
+use Rattle.fault.specs.declared.failure.Failure.{Failure}
+use Rattle.fault.specs.declared.failure.Failure.TheVariants.{Faulty, NoMemory}
 use Rattle.report.specs.declared.Report.{Report}
 use Rattle.wire.specs.Makers.{bytes_fault, marked_fault}
 use Rattle.terms.specs.declared.model.PostChoice.TheVariants.{Bit}
@@ -62,7 +62,7 @@ marked_none x y p =
     ∙ (cond-true _ _ _ (le-leb (length y.marks) 65535 p.marks) ∙ bytes_none 0 y.marks p.day.marks)
 
 -- the day over the post that the terms name
-pub bit_on : (e : ℕ) (slack : ℕ → ℕ) (x : TermsModel) (y : DayModel) (lots : List ℕ) (r : Result Report ReadError) → x.post ≡ Bit → lots ≡ y.lots
+pub bit_on : (e : ℕ) (slack : ℕ → ℕ) (x : TermsModel) (y : DayModel) (lots : List ℕ) (r : Result Report Failure) → x.post ≡ Bit → lots ≡ y.lots
     → BitReported x.offices e slack y.marks lots r → ReportedOn e slack x y r
 bit_on e slack x y lots (Ok r) post same b = (
   subst (λ lots. LotsReport (setting_for x.offices e slack) lots (report_model r)) same b.0,

@@ -1,8 +1,8 @@
 -- What is printed of two texts: the report of the day, or the first fault. Assumes nothing.
 use Rattle.std.specs.Prelude.{◌≡◌, ℕ, ◌≤◌, List, length, Ok, Err, Result}
 use Rattle.fault.specs.declared.Fault.{Fault}
-use Rattle.reader.specs.declared.read_error.ReadError.{ReadError}
-use Rattle.reader.specs.declared.read_error.ReadError.TheVariants.{Faulty, NoMemory}
+use Rattle.fault.specs.declared.failure.Failure.{Failure}
+use Rattle.fault.specs.declared.failure.Failure.TheVariants.{Faulty, NoMemory}
 use Rattle.report.specs.declared.Report.{Report}
 use Rattle.report.specs.Models.{ReportModel, report_model}
 use Rattle.report.specs.ReportText.{report_text}
@@ -35,7 +35,7 @@ pub record Playable (x : TermsModel) (y : DayModel) : Type 0 where
   pub marks : length y.marks ≤ 65535
 
 -- A report of the day; a fault only if its figures are out of range.
-abbrev pub Reported : TermsModel → DayModel → Result Report ReadError → Type 0
+abbrev pub Reported : TermsModel → DayModel → Result Report Failure → Type 0
 Reported x y (Ok r) = DayReport x y (report_model r)
 Reported x y (Err (Faulty f)) = Playable x y → ⊥
 Reported x y (Err NoMemory) = Unit {0}

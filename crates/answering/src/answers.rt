@@ -6,8 +6,8 @@ ghost use Rattle.answering.specs.Answers.{Playable, ReportPrinted, Printed};
 
 use crate::reports::day_report;
 use day::Day;
+use fault::Failure;
 use printing::fault_text;
-use reader::ReadError;
 use report::report_text;
 use std::alloc::{AllocError, Global};
 use terms::Terms;
@@ -26,8 +26,8 @@ fn day_text(
     match day_report(heap, agreed, played) {
         Ok(report) => report_text(heap, &report),
         Err(error) => match error {
-            ReadError::Faulty(fault) => fault_text(heap, terms, day, fault),
-            ReadError::NoMemory => Err(AllocError),
+            Failure::Faulty(fault) => fault_text(heap, terms, day, fault),
+            Failure::NoMemory => Err(AllocError),
         },
     }
 }
@@ -38,7 +38,7 @@ pub fn answer(heap: Global, terms: &[u8], day: &[u8]) -> Result<Vec<u8>, AllocEr
 {
     match read_texts(heap, terms, day) {
         Ok((agreed, played)) => day_text(heap, terms, day, &agreed, &played),
-        Err(ReadError::Faulty(fault)) => fault_text(heap, terms, day, fault),
-        Err(ReadError::NoMemory) => Err(AllocError),
+        Err(Failure::Faulty(fault)) => fault_text(heap, terms, day, fault),
+        Err(Failure::NoMemory) => Err(AllocError),
     }
 }

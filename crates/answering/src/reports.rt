@@ -8,14 +8,14 @@ ghost use Rattle.answering.specs.Playing.{ReportedOn, DirectReported, BitReporte
 use crate::figures::report_of;
 use bit_post::FrameCount;
 use day::Day;
+use fault::Failure;
 use ladder::{Halving, Ladder, Listed};
 use playing::{frames_of, play, play_over_wire};
 use post::DirectPost;
-use reader::ReadError;
 use report::Report;
 use std::alloc::Global;
 use terms::{LadderChoice, PostChoice, Terms};
-use wire::{MarkedWire, WireError};
+use wire::MarkedWire;
 
 // The lots over a direct post.
 fn report_direct<L: Ladder + Drop>(
@@ -23,7 +23,7 @@ fn report_direct<L: Ladder + Drop>(
     offices: u32,
     ladder: L,
     lots: &[u32],
-) -> Result<Report, ReadError>
+) -> Result<Report, Failure>
     ensures { DirectReported offices (L.Ladder.steps ladder) (L.Ladder.slack ladder) lots.now result }
 {
     let post = DirectPost::new(offices)?;
@@ -38,13 +38,13 @@ fn report_bit<L: Ladder + Drop>(
     ladder: L,
     marks: &[u8],
     lots: &[u32],
-) -> Result<Report, ReadError>
+) -> Result<Report, Failure>
     ensures { BitReported offices (L.Ladder.steps ladder) (L.Ladder.slack ladder) marks.now lots.now result }
 {
     let wire = match MarkedWire::new(heap, offices, marks) {
         Ok(wire) => wire,
-        Err(WireError::Faulty(fault)) => return Err(ReadError::Faulty(fault)),
-        Err(WireError::NoMemory) => return Err(ReadError::NoMemory),
+        Err(Failure::Faulty(fault)) => return Err(Failure::Faulty(fault)),
+        Err(Failure::NoMemory) => return Err(Failure::NoMemory),
     };
     let played = play_over_wire(wire, ladder, lots);
     let frames = frames_of(&played.window);
@@ -57,7 +57,7 @@ fn report_on<L: Ladder + Drop>(
     terms: &Terms,
     ladder: L,
     day: &Day<'_>,
-) -> Result<Report, ReadError>
+) -> Result<Report, Failure>
     ensures { ReportedOn (L.Ladder.steps ladder) (L.Ladder.slack ladder) (terms_model terms.now) (day_model day.now) result }
 {
     match terms.post {
@@ -67,7 +67,7 @@ fn report_on<L: Ladder + Drop>(
 }
 
 // The report of a day under its terms, or a fault if a number is out of its range.
-pub fn day_report(heap: Global, terms: &Terms, day: &Day<'_>) -> Result<Report, ReadError>
+pub fn day_report(heap: Global, terms: &Terms, day: &Day<'_>) -> Result<Report, Failure>
     ensures { Reported (terms_model terms.now) (day_model day.now) result }
 {
     match &terms.ladder {

@@ -1,7 +1,8 @@
 // The report of one day, in buffers of several lengths.
 use bit_post::FrameCount;
+use fault::Failure;
 use post::MessageCount;
-use report::{Report, WriteError, report_text, write_report};
+use report::{Report, report_text, write_report};
 use std::alloc::{AllocError, Global};
 use std::test::Fail;
 
@@ -26,9 +27,9 @@ fn report_of(heap: Global, closed: Option<usize>) -> Result<Report, AllocError> 
 }
 
 // The number and the place of a refusal, or zeros where there is none.
-fn refusal_of(answer: Result<usize, WriteError>) -> (u32, usize) {
+fn refusal_of(answer: Result<usize, Failure>) -> (u32, usize) {
     match answer {
-        Err(WriteError::Faulty(fault)) => (fault.refusal.number(), fault.place),
+        Err(Failure::Faulty(fault)) => (fault.refusal.number(), fault.place),
         _ => (0, 0),
     }
 }

@@ -8,8 +8,8 @@ ghost use Rattle.day.specs.Models.{day_model};
 ghost use Rattle.reader.specs.Words.{marks_key, lots_key};
 
 use crate::Day;
-use fault::{Fault, Layer, Refusal};
-use reader::{ByteKind, ReadError, Reader, words};
+use fault::{Failure, Fault, Layer, Refusal};
+use reader::{ByteKind, Reader, words};
 use std::alloc::Global;
 
 // The marks, as a part of the text.
@@ -35,7 +35,7 @@ fn marks_line<'a>(reader: &mut Reader<'a>) -> Result<&'a [u8], Fault>
 }
 
 // One office or more with commas between.
-fn some_lots(heap: Global, reader: &mut Reader<'_>, offices: u32) -> Result<Vec<u32>, ReadError>
+fn some_lots(heap: Global, reader: &mut Reader<'_>, offices: u32) -> Result<Vec<u32>, Failure>
     ensures value { GivesAt vec_items (from_here (some_lots offices) reader.old) result reader.new.place }
     ensures same { SameText reader.old reader.new }
 {
@@ -50,7 +50,7 @@ fn some_lots(heap: Global, reader: &mut Reader<'_>, offices: u32) -> Result<Vec<
 }
 
 // The lots: none where the line ends at once.
-fn lots(heap: Global, reader: &mut Reader<'_>, offices: u32) -> Result<Vec<u32>, ReadError>
+fn lots(heap: Global, reader: &mut Reader<'_>, offices: u32) -> Result<Vec<u32>, Failure>
     ensures value { GivesAt vec_items (from_here (lots_text offices) reader.old) result reader.new.place }
     ensures same { SameText reader.old reader.new }
 {
@@ -60,7 +60,7 @@ fn lots(heap: Global, reader: &mut Reader<'_>, offices: u32) -> Result<Vec<u32>,
     some_lots(heap, reader, offices)
 }
 
-fn lots_line(heap: Global, reader: &mut Reader<'_>, offices: u32) -> Result<Vec<u32>, ReadError>
+fn lots_line(heap: Global, reader: &mut Reader<'_>, offices: u32) -> Result<Vec<u32>, Failure>
     ensures value { GivesAt vec_items (from_here (line_of lots_key (lots_text offices)) reader.old) result reader.new.place }
     ensures same { SameText reader.old reader.new }
 {
@@ -71,7 +71,7 @@ fn lots_line(heap: Global, reader: &mut Reader<'_>, offices: u32) -> Result<Vec<
 }
 
 // The two lines of a day, with nothing after them.
-fn day<'a>(heap: Global, reader: &mut Reader<'a>, offices: u32) -> Result<Day<'a>, ReadError>
+fn day<'a>(heap: Global, reader: &mut Reader<'a>, offices: u32) -> Result<Day<'a>, Failure>
     ensures value { GivesAt day_model (from_here (day_reading offices) reader.old) result reader.new.place }
 {
     let marks = marks_line(reader)?;
@@ -81,7 +81,7 @@ fn day<'a>(heap: Global, reader: &mut Reader<'a>, offices: u32) -> Result<Day<'a
 }
 
 // What the text of a day says, or its first fault, where there are so many offices.
-pub fn read_day<'a>(heap: Global, text: &'a [u8], offices: u32) -> Result<Day<'a>, ReadError>
+pub fn read_day<'a>(heap: Global, text: &'a [u8], offices: u32) -> Result<Day<'a>, Failure>
     ensures value { Gives day_model (read_day offices text.now) result }
 {
     day(heap, &mut Reader::new(Layer::Day, text), offices)

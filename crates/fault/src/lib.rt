@@ -4,6 +4,10 @@
 ghost use Rattle.std.specs.Prelude.{◌≡◌};
 ghost use Rattle.fault.specs.Faults.{refusal_number, layer_name};
 
+mod failure;
+
+pub use failure::Failure;
+
 // The part of the system that refuses.
 #[derive(Clone, Copy, Debug, PartialEq, Eq)]
 pub enum Layer {

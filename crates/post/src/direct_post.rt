@@ -9,8 +9,8 @@ ghost use Rattle.std.proofs.Common.{rules};
 
 use crate::Post;
 use crate::lane_table::LaneTable;
-use crate::office_count::OfficeCount;
-use fault::Fault;
+use fault::{Fault, Layer};
+use offices::OfficeCount;
 
 #[derive(Drop)]
 pub struct DirectPost {
@@ -25,7 +25,7 @@ impl DirectPost {
         ensures post { IfOk result (λ p. (p.offices.number ≡ offices) × (used p.offices.number p.table ≡ replicate (2 * offices) no_lane)) }
     {
         Ok(DirectPost {
-            offices: OfficeCount::new(offices)?,
+            offices: OfficeCount::new(Layer::Post, offices)?,
             table: LaneTable::new(),
         })
     }

@@ -9,7 +9,6 @@ mod direct_post;
 mod faults;
 mod lane_table;
 mod messages;
-mod office_count;
 mod slot;
 #[cfg(test)]
 mod tests;

@@ -8,8 +8,8 @@ ghost use Rattle.terms.specs.Written.{ladder_text, post_text, terms_text};
 use crate::lines::fault_line;
 use crate::writer::{push_line, push_number, push_number_line, push_numbers};
 use day::Day;
-use fault::Fault;
-use reader::{ReadError, words};
+use fault::{Failure, Fault};
+use reader::words;
 use std::alloc::{AllocError, Global};
 use terms::{LadderChoice, PostChoice, Terms};
 use texts::read_texts;
@@ -96,7 +96,7 @@ pub fn answer(heap: Global, terms: &[u8], day: &[u8]) -> Result<Vec<u8>, AllocEr
 {
     match read_texts(heap, terms, day) {
         Ok((agreed, played)) => summary_text(heap, &agreed, &played),
-        Err(ReadError::Faulty(fault)) => fault_text(heap, terms, day, fault),
-        Err(ReadError::NoMemory) => Err(AllocError),
+        Err(Failure::Faulty(fault)) => fault_text(heap, terms, day, fault),
+        Err(Failure::NoMemory) => Err(AllocError),
     }
 }

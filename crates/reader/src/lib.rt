@@ -7,13 +7,11 @@ use fault::Layer;
 
 mod byte_kind;
 mod line_end;
-mod read_error;
 mod reading;
 pub mod words;
 
 pub use byte_kind::ByteKind;
 pub use line_end::line_end_length;
-pub use read_error::ReadError;
 
 // The text, the layer that its faults name, and the place: an offset from 0, at most the length.
 #[derive(Drop)]

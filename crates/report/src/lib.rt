@@ -5,11 +5,9 @@ use bit_post::FrameCount;
 use post::MessageCount;
 
 mod text;
-mod write_error;
 mod writing;
 
 pub use text::report_text;
-pub use write_error::WriteError;
 pub use writing::write_report;
 
 // The numbers of a report; those of the offices stand in lists, from office 1 on.

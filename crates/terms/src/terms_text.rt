@@ -9,8 +9,8 @@ ghost use Rattle.terms.specs.TermsText.{steps_allowed, divisor_allowed, divisors
 ghost use Rattle.reader.specs.Words.{ladder_key, post_key};
 
 use crate::{LadderChoice, PostChoice, Terms};
-use fault::{Fault, Layer, Refusal};
-use reader::{ByteKind, ReadError, Reader, words};
+use fault::{Failure, Fault, Layer, Refusal};
+use reader::{ByteKind, Reader, words};
 use std::alloc::Global;
 
 const MOST_OFFICES: u32 = 64;
@@ -56,7 +56,7 @@ fn divisor(reader: &mut Reader<'_>, whole: u32) -> Result<u32, Fault>
 }
 
 // One to sixteen divisors with commas between.
-fn divisors(heap: Global, reader: &mut Reader<'_>, grain: u32) -> Result<Vec<u32>, ReadError>
+fn divisors(heap: Global, reader: &mut Reader<'_>, grain: u32) -> Result<Vec<u32>, Failure>
     ensures value { GivesAt vec_items (from_here (divisors_text grain) reader.old) result reader.new.place }
     ensures same { SameText reader.old reader.new }
 {
@@ -69,7 +69,7 @@ fn divisors(heap: Global, reader: &mut Reader<'_>, grain: u32) -> Result<Vec<u32
             return Ok(divisors);
         }
         if divisors.len() == MOST_DIVISORS {
-            return Err(ReadError::Faulty(reader.fault(Refusal::OutOfRange)));
+            return Err(Failure::Faulty(reader.fault(Refusal::OutOfRange)));
         }
         reader.skip(words::COMMA);
         whole *= next;
@@ -77,7 +77,7 @@ fn divisors(heap: Global, reader: &mut Reader<'_>, grain: u32) -> Result<Vec<u32
 }
 
 // The ladder: one of its words, and its numbers.
-fn ladder(heap: Global, reader: &mut Reader<'_>, grain: u32) -> Result<LadderChoice, ReadError>
+fn ladder(heap: Global, reader: &mut Reader<'_>, grain: u32) -> Result<LadderChoice, Failure>
     ensures value { GivesAt ladder_model (from_here (ladder_text grain) reader.old) result reader.new.place }
     ensures same { SameText reader.old reader.new }
 {
@@ -87,7 +87,7 @@ fn ladder(heap: Global, reader: &mut Reader<'_>, grain: u32) -> Result<LadderCho
     if reader.skip(words::LISTED_WORD) {
         return Ok(LadderChoice::Listed(divisors(heap, reader, grain)?));
     }
-    Err(ReadError::Faulty(reader.fault(Refusal::UnknownWord)))
+    Err(Failure::Faulty(reader.fault(Refusal::UnknownWord)))
 }
 
 // The post: one of its words.
@@ -104,7 +104,7 @@ fn post(reader: &mut Reader<'_>) -> Result<PostChoice, Fault>
     }
 }
 
-fn ladder_line(heap: Global, reader: &mut Reader<'_>, grain: u32) -> Result<LadderChoice, ReadError>
+fn ladder_line(heap: Global, reader: &mut Reader<'_>, grain: u32) -> Result<LadderChoice, Failure>
     ensures value { GivesAt ladder_model (from_here (line_of ladder_key (ladder_text grain)) reader.old) result reader.new.place }
     ensures same { SameText reader.old reader.new }
 {
@@ -125,7 +125,7 @@ fn post_line(reader: &mut Reader<'_>) -> Result<PostChoice, Fault>
 }
 
 // The four lines of the terms, with nothing after them.
-fn terms(heap: Global, reader: &mut Reader<'_>) -> Result<Terms, ReadError>
+fn terms(heap: Global, reader: &mut Reader<'_>) -> Result<Terms, Failure>
     ensures value { GivesAt terms_model (from_here terms_reading reader.old) result reader.new.place }
 {
     let offices = reader.number_line(words::OFFICES_KEY, 1, MOST_OFFICES)?;
@@ -142,7 +142,7 @@ fn terms(heap: Global, reader: &mut Reader<'_>) -> Result<Terms, ReadError>
 }
 
 // What the text of the terms says, or its first fault.
-pub fn read_terms(heap: Global, text: &[u8]) -> Result<Terms, ReadError>
+pub fn read_terms(heap: Global, text: &[u8]) -> Result<Terms, Failure>
     ensures value { Gives terms_model (read_terms text.now) result }
 {
     terms(heap, &mut Reader::new(Layer::Terms, text))

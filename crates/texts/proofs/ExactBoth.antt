@@ -7,8 +7,8 @@ use Rattle.fault.specs.declared.Layer.TheVariants.{Terms as InTerms, Day as InDa
 use Rattle.reader.proofs.Exact.{bind_inv, bind_on, ok_same, cond_inv_not}
 use Rattle.day.specs.declared.model.Day.{Day}
 use Rattle.terms.specs.declared.model.Terms.{Terms}
-use Rattle.reader.specs.declared.read_error.ReadError.{ReadError}
-use Rattle.reader.specs.declared.read_error.ReadError.TheVariants.{Faulty, NoMemory}
+use Rattle.fault.specs.declared.failure.Failure.{Failure}
+use Rattle.fault.specs.declared.failure.Failure.TheVariants.{Faulty, NoMemory}
 use Rattle.reader.specs.Answers.{Gives}
 use Rattle.texts.specs.Both.{most_bytes, short, read_both, both_model, Admissible, ReadsExactly}
 use Rattle.day.specs.DayText.{read_day}
@@ -50,7 +50,7 @@ both_full t d x y a =
     (bind_on _ (terms_full t x a.terms_written a.terms_range)
     (bind_on _ (day_full x.offices a.terms_range.offices_high d y a.day_written a.day_range) refl)))
 
-pub exactly : (t d : List ℕ) (r : Result (Terms × Day) ReadError) → Gives both_model (read_both t d) r → ReadsExactly t d r
+pub exactly : (t d : List ℕ) (r : Result (Terms × Day) Failure) → Gives both_model (read_both t d) r → ReadsExactly t d r
 exactly t d (Ok v) e = (both_sound t d (terms_model v.0) (day_model v.1) e, λ x y a. ok_same (sym (both_full t d x y a) ∙ e))
 exactly t d (Err (Faulty f)) e = λ x y a. let k : ◌≡◌ {A = Result (TermsModel × DayModel) Fault} (Err f) (Ok (x, y)) = sym e ∙ both_full t d x y a in let z : ◌≡◌ {A = ℕ} 0 1 = cc in omega arith
 exactly t d (Err NoMemory) e = tt

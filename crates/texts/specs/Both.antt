@@ -8,8 +8,8 @@ use Rattle.fault.specs.Faults.{fault}
 use Rattle.reader.specs.Readings.{bind}
 use Rattle.day.specs.declared.model.Day.{Day}
 use Rattle.terms.specs.declared.model.Terms.{Terms}
-use Rattle.reader.specs.declared.read_error.ReadError.{ReadError}
-use Rattle.reader.specs.declared.read_error.ReadError.TheVariants.{Faulty, NoMemory}
+use Rattle.fault.specs.declared.failure.Failure.{Failure}
+use Rattle.fault.specs.declared.failure.Failure.TheVariants.{Faulty, NoMemory}
 use Rattle.terms.specs.Models.{TermsModel, terms_model}
 use Rattle.day.specs.Models.{DayModel, day_model}
 use Rattle.terms.specs.TermsText.{read_terms}
@@ -46,7 +46,7 @@ abbrev pub both_model : Terms × Day → TermsModel × DayModel
 both_model v = (terms_model v.0, day_model v.1)
 
 -- texts are read to x and y exactly if they are the texts of x and y, in range: nothing else is read, and nothing admissible is refused
-abbrev pub ReadsExactly : List ℕ → List ℕ → Result (Terms × Day) ReadError → Type 0
+abbrev pub ReadsExactly : List ℕ → List ℕ → Result (Terms × Day) Failure → Type 0
 ReadsExactly t d (Ok v) = Admissible t d (terms_model v.0) (day_model v.1) × ((x : TermsModel) (y : DayModel) → Admissible t d x y → (x, y) ≡ both_model v)
 ReadsExactly t d (Err (Faulty f)) = (x : TermsModel) (y : DayModel) → Admissible t d x y → ⊥
 ReadsExactly t d (Err NoMemory) = Unit {0}

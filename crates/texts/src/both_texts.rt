@@ -4,8 +4,7 @@ ghost use Rattle.reader.specs.Answers.{Gives};
 ghost use Rattle.texts.specs.Both.{short as short_text, read_both, both_model, ReadsExactly};
 
 use day::{Day, read_day};
-use fault::{Fault, Layer, Refusal};
-use reader::ReadError;
+use fault::{Failure, Fault, Layer, Refusal};
 use std::alloc::Global;
 use terms::{Terms, read_terms};
 
@@ -25,7 +24,7 @@ fn short(layer: Layer, text: &[u8]) -> Result<(), Fault>
     Ok(())
 }
 
-fn both<'a>(heap: Global, terms: &[u8], day: &'a [u8]) -> Result<(Terms, Day<'a>), ReadError>
+fn both<'a>(heap: Global, terms: &[u8], day: &'a [u8]) -> Result<(Terms, Day<'a>), Failure>
     ensures value { Gives both_model (read_both terms.now day.now) result }
 {
     short(Layer::Terms, terms)?;
@@ -40,7 +39,7 @@ pub fn read_texts<'a>(
     heap: Global,
     terms: &[u8],
     day: &'a [u8],
-) -> Result<(Terms, Day<'a>), ReadError>
+) -> Result<(Terms, Day<'a>), Failure>
     ensures value { Gives both_model (read_both terms.now day.now) result }
     ensures exact { ReadsExactly terms.now day.now result }
 {

@@ -9,8 +9,8 @@ use Rattle.wire.specs.declared.clean_wire.CleanWire.{CleanWire}
 use Rattle.wire.specs.declared.marked_wire.MarkedWire.{MarkedWire}
 use Rattle.wire.specs.declared.marks.Marks.{Marks}
 use Rattle.wire.specs.declared.rows.Rows.{Rows}
-use Rattle.wire.specs.declared.wire_error.WireError.{WireError}
-use Rattle.wire.specs.declared.wire_error.WireError.TheVariants.{Faulty, NoMemory}
+use Rattle.fault.specs.declared.failure.Failure.{Failure}
+use Rattle.fault.specs.declared.failure.Failure.TheVariants.{Faulty, NoMemory}
 
 -- nothing waits on any lane of k offices
 abbrev pub all_empty : (k : ℕ) → List WireLane
@@ -59,7 +59,7 @@ pub record MarkedStart (offices : ℕ) (marks : List ℕ) (w : MarkedWire) : Typ
   pub troubles : w.marks.troubles ≡ costs (map byte_outcome marks)
 
 -- a new marked wire, or the first fault; without a fault there may be no memory
-abbrev pub MarkedMade : (offices : ℕ) (marks : List ℕ) → Result MarkedWire WireError → Type 0
+abbrev pub MarkedMade : (offices : ℕ) (marks : List ℕ) → Result MarkedWire Failure → Type 0
 MarkedMade offices marks (Ok w) = (marked_fault offices marks ≡ None) × MarkedStart offices marks w
 MarkedMade offices marks (Err (Faulty f)) = marked_fault offices marks ≡ Some f
 MarkedMade offices marks (Err NoMemory) = marked_fault offices marks ≡ None

@@ -12,12 +12,10 @@ mod marks;
 mod rows;
 #[cfg(test)]
 mod tests;
-mod wire_error;
 
 pub use clean_wire::CleanWire;
 use fault::Fault;
 pub use marked_wire::MarkedWire;
-pub use wire_error::WireError;
 
 // Two lanes for each office. A frame that is put may be lost or joined twice, as often as the wire has troubles left.
 pub trait Wire {

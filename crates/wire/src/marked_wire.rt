@@ -9,8 +9,7 @@ use crate::Wire;
 use crate::checks::check_marks;
 use crate::marks::Marks;
 use crate::rows::Rows;
-use crate::wire_error::WireError;
-use fault::Fault;
+use fault::{Failure, Fault};
 use std::alloc::Global;
 
 #[derive(Drop)]
@@ -21,7 +20,7 @@ pub struct MarkedWire {
 
 impl MarkedWire {
     // A wire on which nothing waits. Refuses a number of offices outside 1 to 64, more than 65,535 marks, and a byte that is no mark.
-    pub fn new(heap: Global, offices: u32, marks: &[u8]) -> Result<MarkedWire, WireError>
+    pub fn new(heap: Global, offices: u32, marks: &[u8]) -> Result<MarkedWire, Failure>
         ensures { MarkedMade offices marks.now result }
     {
         let rows = Rows::new(offices)?;

@@ -1,5 +1,6 @@
 // Both wires on worked values.
 use super::*;
+use fault::Failure;
 use std::test::Fail;
 
 // The number and the place of a refusal, or zeros where there is none.
@@ -11,11 +12,11 @@ fn refusal_of<T: Drop>(answer: Result<T, Fault>) -> (u32, usize) {
 }
 
 // The same of a marked wire that was to be made; 99 stands for want of memory.
-fn refusal_of_making(answer: Result<MarkedWire, WireError>) -> (u32, usize) {
+fn refusal_of_making(answer: Result<MarkedWire, Failure>) -> (u32, usize) {
     match answer {
         Ok(_) => (0, 0),
-        Err(WireError::Faulty(fault)) => (fault.refusal.number(), fault.place),
-        Err(WireError::NoMemory) => (99, 0),
+        Err(Failure::Faulty(fault)) => (fault.refusal.number(), fault.place),
+        Err(Failure::NoMemory) => (99, 0),
     }
 }
 

@@ -3,16 +3,16 @@ ghost use Rattle.std.specs.Prelude.{◌≡◌, ◌+◌, ◌≤◌, [], ◌∷◌
 ghost use Rattle.wire.specs.Wires.{cost, costs};
 ghost use Rattle.wire.specs.Marks.{outcome_of, byte_outcome, Reads};
 ghost use Rattle.wire.specs.Kinds.{marks_left};
-ghost use Rattle.wire.specs.declared.wire_error.WireError.TheVariants.{NoMemory};
+ghost use Rattle.fault.specs.declared.failure.Failure.TheVariants.{NoMemory};
 
 use super::Marks;
 use crate::mark::Mark;
-use crate::wire_error::WireError;
+use fault::Failure;
 use std::alloc::Global;
 
 impl Marks {
     // The marks that the bytes are, none of them read yet.
-    pub(crate) fn from_bytes(heap: Global, bytes: &[u8]) -> Result<Marks, WireError>
+    pub(crate) fn from_bytes(heap: Global, bytes: &[u8]) -> Result<Marks, Failure>
         requires { length bytes.now ≤ 65535 }
         ensures { MatchResult result (λ m. (marks_left m ≡ map byte_outcome bytes.now) × (m.troubles ≡ costs (map byte_outcome bytes.now))) (λ e. e ≡ NoMemory) }
     {

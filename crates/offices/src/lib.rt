@@ -1,11 +1,11 @@
-// A number of offices that a post may have.
+// A number of offices that a post or a wire may have.
+#![tactic(auto)]
+
 ghost use Rattle.std.specs.Prelude.{◌≡◌, ◌≤◌, IfOk};
 ghost use Rattle.std.specs.Result.{result_err};
-ghost use Rattle.post.specs.Makers.{post_fault};
+ghost use Rattle.offices.specs.OfficeCounts.{office_count_fault};
 
 use fault::{Fault, Layer, Refusal};
-
-const MOST_OFFICES: u32 = 64;
 
 #[derive(Clone, Copy)]
 pub struct OfficeCount {
@@ -15,14 +15,17 @@ pub struct OfficeCount {
 }
 
 impl OfficeCount {
-    // Refuses a number out of its range.
-    pub fn new(number: u32) -> Result<OfficeCount, Fault>
-        ensures fault { result_err result ≡ post_fault number }
+    // The most offices that there are.
+    pub const MOST: u32 = 64;
+
+    // Refuses, in the name of the layer, a number out of its range.
+    pub fn new(layer: Layer, number: u32) -> Result<OfficeCount, Fault>
+        ensures fault { result_err result ≡ office_count_fault layer number }
         ensures count { IfOk result (λ c. c.number ≡ number) }
     {
-        if number < 1 || number > MOST_OFFICES {
+        if !(1..=OfficeCount::MOST).contains(&number) {
             return Err(Fault {
-                layer: Layer::Post,
+                layer,
                 refusal: Refusal::OutOfRange,
                 place: number as usize,
             });
