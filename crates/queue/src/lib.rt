@@ -8,6 +8,8 @@ use std::alloc::AllocError;
 mod queueing;
 
 // The items from first to last are the first `count` of the table.
+// Kept: a fixed table with its count, since a queue may not want memory.
+#[derive(Copy)]
 pub struct Queue<T> {
     items: [T; 16],
     count: u8,
@@ -15,8 +17,7 @@ pub struct Queue<T> {
     ghost fits: { count ≤ 16 },
 }
 
-impl<T: Copy> Copy for Queue<T> {}
-
+// Kept: no `Clone` can be derived for a generic struct with a ghost field.
 impl<T: Copy> Clone for Queue<T> {
     ghost is_clone = { λ x y. y ≡ x };
 

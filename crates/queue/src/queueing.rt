@@ -1,5 +1,5 @@
 // What a queue does.
-ghost use Rattle.std.specs.Prelude.{◌≡◌, ◌≤◌, false, [], ◌∷◌, ◌++◌, length, if◌then◌else◌, None, nat_lt};
+ghost use Rattle.std.specs.Prelude.{◌≡◌, ◌≤◌, true, [], ◌∷◌, ◌++◌, length, if◌then◌else◌, is_ok, is_err, None, Ok, Err, nat_lt};
 ghost use Rattle.queue.specs.Queues.{held, first, rest};
 
 use crate::Queue;
@@ -26,19 +26,19 @@ impl<T: Copy> Queue<T> {
         self.count as usize
     }
 
-    // The item joins the end; a full queue refuses it, and nothing changes.
-    pub fn push(&mut self, item: T) -> bool
-        ensures value { result ≡ nat_lt (length (held self.old)) 16 }
-        ensures after { held self.new ≡ (if result then held self.old ++ item ∷ [] else held self.old) }
-        ensures same { result ≡ false → self.new ≡ self.old }
+    // The item joins the end; a full queue gives it back, and nothing changes.
+    pub fn push(&mut self, item: T) -> Result<(), T>
+        ensures value { result ≡ (if nat_lt (length (held self.old)) 16 then Ok tt else Err item) }
+        ensures after { held self.new ≡ (if is_ok result then held self.old ++ item ∷ [] else held self.old) }
+        ensures same { is_err result ≡ true → self.new ≡ self.old }
     {
         if self.count >= MOST_ITEMS {
-            return false;
+            return Err(item);
         }
         let end = usize::from(self.count);
         self.items[end] = item;
         self.count += 1;
-        true
+        Ok(())
     }
 
     // The first item, which leaves; of an empty queue none, and nothing changes.
@@ -50,13 +50,9 @@ impl<T: Copy> Queue<T> {
         if self.count == 0 {
             return None;
         }
-        let mut items = self.items;
-        let item = items[0];
-        for i in 0..15 {
-            items[i] = self.items[i + 1];
-        }
-        self.items = items;
+        let first = self.items[0];
+        self.items.copy_within(1..16, 0);
         self.count -= 1;
-        Some(item)
+        Some(first)
     }
 }

@@ -80,7 +80,7 @@ impl Rows {
         ensures lanes { lanes_of self.new ≡ slice_set (lanes_of self.old) lane (lane_of ((wire_lane (lanes_of self.old) lane).frames ++ (frame ∷ []))) }
     {
         let mut queue = self.queue_of(lane);
-        queue.push(frame);
+        let _ = queue.push(frame);
         self.store(lane, queue);
     }
 

@@ -1,15 +1,10 @@
-use Rattle.std.proofs.Common.{arith, rules}
-use Rattle.queue.proofs.Popping.{moved, first_of, rest_by}
+use Rattle.std.proofs.Common.{take, drop, ap, ◌∙◌, arith, length-drop}
+use Rattle.std.proofs.lemmas.List.Edits.{take-paste}
+use Rattle.queue.proofs.Popping.{rest_by}
 use Rattle.queue.proofs.Queue.pop.Goals as goal
 
-pub loop-i-preserved : goal.loop-i-preserved
-loop-i-preserved g c = (search rules, moved c.args.self.now.items c.loop-i.items c.loop-i.i _ (omega arith) (omega arith) c.loop-i.invariant.1 (search rules))
-
-pub returns : goal.returns
-returns g c =
+pub returns-clause-after : goal.returns-clause-after
+returns-clause-after g c =
     let q = c.args.self.now in
-    record {
-      value = first_of q.items q.count _ (omega arith) (omega arith);
-      after = rest_by q.items c.loop-i.items q.count (omega arith) (omega arith) q.wide (search rules);
-      same = λ e. search rules;
-    }
+    rest_by q.items c.copy_within.new.self q.count (omega arith) (omega arith) q.wide
+      (ap (take 15) c.copy_within.ensures.after ∙ take-paste q.items 0 (drop 1 q.items) 15 (omega arith) (rw length-drop (omega arith)))
