@@ -1,6 +1,8 @@
--- The test of bytes in turn. Assumes nothing.
-use Rattle.std.proofs.Common.{◌≡◌, ℕ, ◌+◌, ◌<◌, true, false, cond, List, length, get_or, drop, Some, Option, sym, ap, ◌∙◌}
-use Rattle.std.proofs.lemmas.List.{at_drop_more}
+-- The first fault in bytes that are to be marks, by the number of the first other byte. Assumes nothing.
+use Rattle.std.proofs.Common.{◌≡◌, ℕ, ◌+◌, Bool, true, false, not, cond, List, [], ◌∷◌, Some, Option, sym, refl, ap, ◌∙◌}
+use Rattle.std.specs.List.{position, position_from}
+use Rattle.std.specs.Option.{option_map}
+use Rattle.std.proofs.lemmas.Iterator.Adapters.{position_from-zero}
 use Rattle.fault.specs.Faults.{fault}
 use Rattle.fault.specs.declared.Fault.{Fault}
 use Rattle.fault.specs.declared.Layer.TheVariants.{Wire}
@@ -8,13 +10,16 @@ use Rattle.fault.specs.declared.Refusal.TheVariants.{NotAMark}
 use Rattle.wire.specs.Marks.{is_mark}
 use Rattle.wire.specs.Makers.{bytes_fault}
 
--- one turn of the loop over xs, where what is left to test gives what is owed
-module _ (xs : List ℕ) (i : ℕ) (owed : Option Fault) (left : bytes_fault i (drop i xs) ≡ owed) (here : i < length xs) where
-  next : cond (is_mark (get_or xs i 0)) (bytes_fault (i + 1) (drop (i + 1) xs)) (Some (fault Wire NotAMark i)) ≡ owed
-  next = sym (at_drop_more (bytes_fault i) xs i 0 here) ∙ left
+abbrev other_at : ℕ → Fault
+other_at i = fault Wire NotAMark i
 
-  pub no_mark : is_mark (get_or xs i 0) ≡ false → Some (fault Wire NotAMark i) ≡ owed
-  no_mark bad = sym (ap (λ b. cond b (bytes_fault (i + 1) (drop (i + 1) xs)) (Some (fault Wire NotAMark i))) bad) ∙ next
+one_byte : (mark : Bool) (i : ℕ) (rest : Option Fault) (at : Option ℕ) → rest ≡ option_map other_at at → cond mark rest (Some (other_at i)) ≡ option_map other_at (cond (not mark) (Some i) at)
+one_byte true i rest at e = e
+one_byte false i rest at e = refl
 
-  pub goes_on : is_mark (get_or xs i 0) ≡ true → bytes_fault (i + 1) (drop (i + 1) xs) ≡ owed
-  goes_on good = sym (ap (λ b. cond b (bytes_fault (i + 1) (drop (i + 1) xs)) (Some (fault Wire NotAMark i))) good) ∙ next
+by_place_from : (i : ℕ) (xs : List ℕ) → bytes_fault i xs ≡ option_map other_at (position_from (λ b. not (is_mark b)) i xs)
+by_place_from i [] = refl
+by_place_from i (x ∷ xs) = one_byte (is_mark x) i _ _ (by_place_from (i + 1) xs)
+
+pub by_place : (xs : List ℕ) (at : Option ℕ) → at ≡ position (λ b. not (is_mark b)) xs → option_map (λ i. fault Wire NotAMark i) at ≡ bytes_fault 0 xs
+by_place xs at e = ap (option_map other_at) (e ∙ position_from-zero (λ b. not (is_mark b)) xs) ∙ sym (by_place_from 0 xs)

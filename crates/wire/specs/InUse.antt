@@ -1,15 +1,13 @@
 -- The lanes of rows of frames, and a put and a take where each frame takes one place: lemmas that impls cite, proved and nothing to believe.
-use Rattle.std.specs.Prelude.{◌≡◌, ℕ, zero, suc, ◌+◌, ◌*◌, ◌<◌, ◌≤◌, cond, List, [], ◌∷◌, ◌++◌, map, length, take, set, replicate, Some, None, Ok, Option, nat_le, nat_lt, slice_index_or, slice_set, refl}
+use Rattle.std.specs.Prelude.{◌≡◌, ℕ, zero, suc, ◌+◌, ◌*◌, ◌<◌, ◌≤◌, cond, List, [], ◌∷◌, ◌++◌, map, length, take, replicate, Some, None, nat_le, nat_lt, slice_set, refl}
 use Rattle.std.proofs.Common.{sym, ap, subst, ◌∙◌, arith}
 use Rattle.std.proofs.Math.Seq.{take-set-lt}
-use Rattle.std.proofs.lemmas.List.{get_or-map, get_or-take, get_or-set_same, get_or-set_other, set-set, set-get_or, append-nil, append_assoc, length-map, length_push, length-append, length-take-le, map-set, take-replicate}
+use Rattle.std.proofs.lemmas.List.{get_or-set_same, get_or-set_other, length-map, length_push, length-append, length-take-le, map-set, take-replicate}
 use Rattle.std.proofs.lemmas.Bool.Decides.{nat_tests}
-use Rattle.fault.specs.declared.Fault.{Fault}
-use Rattle.queue.specs.Queues.{held, first, rest}
+use Rattle.queue.specs.Queues.{held}
 use Rattle.queue.specs.declared.Queue.{Queue}
-use Rattle.wire.specs.Wires.{Outcome, once, lost, twice, copies, cost, WireLane, no_frames, wire_lane, Others, no_such_lane, places_taken, put_fault, PlacesAfter, PlacedBy, Taken, TakeDone, WireLaw}
+use Rattle.wire.specs.Wires.{Outcome, once, lost, twice, copies, cost, WireLane, no_frames, wire_lane, Others, no_such_lane, places_taken, put_fault, PlacesAfter, PlacedBy, WireLaw}
 use Rattle.wire.specs.Rows.{lane_of, queue_lane, lanes_of}
-use Rattle.wire.specs.Makers.{clean_fault}
 use Rattle.wire.specs.Kinds.{all_empty}
 use Rattle.wire.specs.declared.rows.Rows.{Rows}
 
@@ -22,33 +20,26 @@ lane_of_frames (suc n) (q ∷ qs) (suc i) = lane_of_frames n qs i
 module _ (r : Rows) where
   -- only waiting frames take places, one each
   pub lane_is : (i : ℕ) → wire_lane (lanes_of r) i ≡ lane_of (wire_lane (lanes_of r) i).frames
-  lane_is i = lane_of_frames (2 * r.offices) r.queues i
+  lane_is i = lane_of_frames (2 * r.offices.number) r.queues i
 
-  pub lanes_length : length (lanes_of r) ≡ 2 * r.offices
-  lanes_length = length-take-le (2 * r.offices) (map queue_lane r.queues) (omega (arith, length-map r.queues queue_lane, r.wide, r.few))
+  pub lanes_length : length (lanes_of r) ≡ 2 * r.offices.number
+  lanes_length = length-take-le (2 * r.offices.number) (map queue_lane r.queues) (omega (arith, length-map r.queues queue_lane, r.wide, r.offices.few))
 
-  pub rows_sound : (t : ℕ) → t ≤ 65535 → WireLaw r.offices (lanes_of r) t
+  pub rows_sound : (t : ℕ) → t ≤ 65535 → WireLaw r.offices.number (lanes_of r) t
   rows_sound t bound =
-      record { some = r.some; few = r.few; both_ways = lanes_length; each = λ i. omega (arith, ap (λ l. l.places) (lane_is i)); bounded = bound }
+      record { some = r.offices.some; few = r.offices.few; both_ways = lanes_length; each = λ i. omega (arith, ap (λ l. l.places) (lane_is i)); bounded = bound }
 
   module _ (i : ℕ) (there : i < length (lanes_of r)) where
-    used : i < 2 * r.offices
+    used : i < 2 * r.offices.number
     used = omega (arith, lanes_length)
 
     pub in_table : i < 128
-    in_table = omega (arith, used, r.few)
+    in_table = omega (arith, used, r.offices.few)
 
   module _ (i : ℕ) (q : Queue ℕ) (there : i < length (lanes_of r)) where
-    -- the queue of a lane
-    pub lane_at : wire_lane (lanes_of r) i ≡ queue_lane (slice_index_or r.queues i q)
-    lane_at = get_or-take (2 * r.offices) (map queue_lane r.queues) i no_frames (used i there) ∙ get_or-map queue_lane r.queues i q no_frames (omega (arith, in_table i there, r.wide))
-
     -- a queue that is written
-    pub stored : take (2 * r.offices) (map queue_lane (slice_set r.queues i q)) ≡ slice_set (lanes_of r) i (queue_lane q)
-    stored = ap (take (2 * r.offices)) (map-set queue_lane r.queues i q) ∙ take-set-lt (2 * r.offices) (map queue_lane r.queues) i (queue_lane q) (used i there)
-
-pub offices_few : (k : ℕ) → None ≡ clean_fault k → k ≤ 64
-offices_few k none = grind (arith, nat_tests)
+    pub stored : take (2 * r.offices.number) (map queue_lane (slice_set r.queues i q)) ≡ slice_set (lanes_of r) i (queue_lane q)
+    stored = ap (take (2 * r.offices.number)) (map-set queue_lane r.queues i q) ∙ take-set-lt (2 * r.offices.number) (map queue_lane r.queues) i (queue_lane q) (used i there)
 
 map_replicate : (n : ℕ) (q : Queue ℕ) → map queue_lane (replicate n q) ≡ replicate n (queue_lane q)
 map_replicate zero q = refl
@@ -64,38 +55,12 @@ places_joined once fs f = length_push fs f
 places_joined lost fs f = omega (arith, length-append fs [])
 places_joined twice fs f = omega (arith, length-append fs (f ∷ f ∷ []))
 
-taken : (fs : List ℕ) → Taken (lane_of fs) (first fs) (lane_of (rest fs))
-taken [] = (refl, refl)
-taken (f ∷ fs) = (refl, omega arith)
-
 put_passed : (n i p : ℕ) → cond (nat_le n i) (Some (no_such_lane i)) (cond (nat_lt 14 p) (Some (places_taken i)) None) ≡ None → (i < n) × (p ≤ 14)
 put_passed n i p none = grind (arith, nat_tests)
 
 module _ (ls : List WireLane) (i : ℕ) where
-  -- the test of a lane number, and of a put
-  pub no_lane : length ls ≤ i → Some (no_such_lane i) ≡ cond (nat_le (length ls) i) (Some (no_such_lane i)) None
-  no_lane past = grind (arith, nat_tests)
-
-  pub has_lane : i < length ls → None ≡ cond (nat_le (length ls) i) (Some (no_such_lane i)) None
-  has_lane there = grind (arith, nat_tests)
-
-  pub lane_there : None ≡ cond (nat_le (length ls) i) (Some (no_such_lane i)) None → i < length ls
-  lane_there none = grind (arith, nat_tests)
-
-  pub put_no_lane : (f : Fault) → Some f ≡ cond (nat_le (length ls) i) (Some (no_such_lane i)) None → Some f ≡ put_fault ls i
-  put_no_lane f some = grind (arith, nat_tests)
-
-  pub put_no_place : i < length ls → 14 < (wire_lane ls i).places → Some (places_taken i) ≡ put_fault ls i
-  put_no_place there full = grind (arith, nat_tests)
-
-  pub put_fine : i < length ls → (wire_lane ls i).places ≤ 14 → None ≡ put_fault ls i
-  put_fine there room = grind (arith, nat_tests)
-
   pub put_there : put_fault ls i ≡ None → i < length ls
   put_there none = (put_passed (length ls) i (wire_lane ls i).places none).0
-
-  pub put_room : put_fault ls i ≡ None → (wire_lane ls i).places ≤ 14
-  put_room none = (put_passed (length ls) i (wire_lane ls i).places none).1
 
   -- one lane that is written
   module _ (l : WireLane) (after : List WireLane) (there : i < length ls) (is : after ≡ slice_set ls i l) where
@@ -105,21 +70,6 @@ module _ (ls : List WireLane) (i : ℕ) where
     set_others : Others ls i after
     set_others j ne = ap (λ xs. wire_lane xs j) is ∙ get_or-set_other ls i j l no_frames ne
 
-  -- a frame that joins not at all, once or twice
-  pub joined_none : wire_lane ls i ≡ lane_of (wire_lane ls i).frames → ls ≡ slice_set ls i (lane_of ((wire_lane ls i).frames ++ []))
-  joined_none each = sym (set-get_or ls i no_frames) ∙ ap (set ls i) (each ∙ ap lane_of (sym (append-nil (wire_lane ls i).frames)))
-
-  pub joined_places : (f : ℕ) → wire_lane ls i ≡ lane_of (wire_lane ls i).frames → (after : List WireLane) → i < length ls → after ≡ slice_set ls i (lane_of ((wire_lane ls i).frames ++ (f ∷ []))) → (wire_lane after i).places ≡ (wire_lane ls i).places + 1
-  joined_places f each after there is =
-      let here = ap (λ l. l.places) (set_here (lane_of ((wire_lane ls i).frames ++ (f ∷ []))) after there is) in
-      omega (arith, here, length_push (wire_lane ls i).frames f, ap (λ l. l.places) each)
-
-  pub joined_twice : (f : ℕ) (one two : List WireLane) → i < length ls → one ≡ slice_set ls i (lane_of ((wire_lane ls i).frames ++ (f ∷ []))) → two ≡ slice_set one i (lane_of ((wire_lane one i).frames ++ (f ∷ []))) → two ≡ slice_set ls i (lane_of ((wire_lane ls i).frames ++ (f ∷ f ∷ [])))
-  joined_twice f one two there is is-two =
-      let fs = (wire_lane ls i).frames in
-      let here = ap (λ l. l.frames) (set_here (lane_of (fs ++ (f ∷ []))) one there is) in
-      is-two ∙ ap (λ gs. set one i (lane_of (gs ++ (f ∷ [])))) here ∙ ap (λ gs. set one i (lane_of gs)) (append_assoc fs (f ∷ []) (f ∷ [])) ∙ ap (λ xs. set xs i (lane_of (fs ++ (f ∷ f ∷ [])))) is ∙ set-set ls i _ _
-
   module _ (each : wire_lane ls i ≡ lane_of (wire_lane ls i).frames) (after : List WireLane) where
     pub put_done : (t u f : ℕ) (o : Outcome) (R : List Outcome → Type 0) → i < length ls → t ≡ u + cost o → after ≡ slice_set ls i (lane_of ((wire_lane ls i).frames ++ copies o f)) → R (o ∷ []) → PlacedBy ls t i f after u R
     put_done t u f o R there spent is run =
@@ -128,9 +78,3 @@ module _ (ls : List WireLane) (i : ℕ) where
         let before = sym (ap (λ l. l.places) each) in
         let places = subst (λ p. PlacesAfter o p (wire_lane after i).places) before (subst (λ l. PlacesAfter o (length fs) l.places) (sym here) (places_joined o fs f)) in
         record { put = record { outcome = o; spent = spent; joins = ap (λ l. l.frames) here; places = places; others = set_others (lane_of (fs ++ copies o f)) after there is }; run = run }
-
-    pub take_done : (o : Option ℕ) → i < length ls → o ≡ first (wire_lane ls i).frames → after ≡ slice_set ls i (lane_of (rest (wire_lane ls i).frames)) → TakeDone ls i (Ok o) after
-    take_done o there value is =
-        let fs = (wire_lane ls i).frames in
-        let here = set_here (lane_of (rest fs)) after there is in
-        (there, subst (λ b. Taken b o (wire_lane after i)) (sym each) (subst (λ a. Taken (lane_of fs) o a) (sym here) (subst (λ v. Taken (lane_of fs) v (lane_of (rest fs))) (sym value) (taken fs))), set_others (lane_of (rest fs)) after there is)

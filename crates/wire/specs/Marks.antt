@@ -1,5 +1,7 @@
 -- What marks say, as bytes and as the wire holds them, and which outcomes they lead to. Assumes nothing.
-use Rattle.std.specs.Prelude.{◌≡◌, ℕ, zero, suc, Bool, cond, ◌||◌, List, [], ◌∷◌, map, length, drop, ◌==◌}
+use Rattle.std.specs.Prelude.{◌≡◌, ℕ, zero, suc, Bool, true, false, cond, ◌||◌, List, [], ◌∷◌, length, drop, Ok, Err, Result, ◌==◌}
+use Rattle.fault.specs.declared.Refusal.{Refusal}
+use Rattle.fault.specs.declared.Refusal.TheVariants.{NotAMark}
 use Rattle.wire.specs.Wires.{Outcome, once, lost, twice}
 use Rattle.wire.specs.declared.mark.Mark.{Mark}
 use Rattle.wire.specs.declared.mark.Mark.TheVariants.{Once, Lost, Twice}
@@ -17,9 +19,10 @@ outcome_of Once = once
 outcome_of Lost = lost
 outcome_of Twice = twice
 
--- what the marks say from number n on
-abbrev pub to_read : ℕ → List Mark → List Outcome
-to_read n ms = map outcome_of (drop n ms)
+-- the mark that a byte is, or the refusal of a byte that is none
+abbrev pub MarkRead : ℕ → Result Mark Refusal → Type 0
+MarkRead b (Ok m) = (is_mark b ≡ true) × (outcome_of m ≡ byte_outcome b)
+MarkRead b (Err r) = (is_mark b ≡ false) × (r ≡ NotAMark)
 
 -- the next n outcomes where the marks to read say os; past the last mark every frame joins once
 abbrev pub next_outcomes : (n : ℕ) (os : List Outcome) → List Outcome

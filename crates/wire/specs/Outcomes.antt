@@ -1,10 +1,14 @@
 -- Marks that are read, what they cost and which outcomes they give: lemmas that an impl cites, proved and nothing to believe.
-use Rattle.std.specs.Prelude.{◌≡◌, ℕ, zero, suc, ◌+◌, ◌<◌, ◌≤◌, List, [], ◌∷◌, ◌++◌, map, length, take, drop, replicate, slice_index, slice_index_or, refl}
-use Rattle.std.proofs.Common.{sym, ap, subst, ◌∙◌, zero-add, suc-add, arith}
-use Rattle.std.proofs.lemmas.List.{drop_more, drop_all, drop-drop, length-append, replicate-append-replicate, map_more, map_push, take_all}
+use Rattle.std.specs.Prelude.{◌≡◌, ℕ, zero, suc, ◌+◌, ◌<◌, ◌≤◌, List, [], ◌∷◌, ◌++◌, map, length, take, drop, replicate, slice_index, Ok, Err, Result, refl}
+use Rattle.std.proofs.Common.{sym, ap, ◌∙◌, zero-add, suc-add, arith}
+use Rattle.std.proofs.lemmas.List.{drop_all, drop-drop, length-append, replicate-append-replicate, map_more, map_push, take_all}
 use Rattle.wire.specs.Wires.{Outcome, once, lost, twice, copies, arrivals, cost, costs}
-use Rattle.wire.specs.Marks.{byte_outcome, outcome_of, to_read, next_outcomes, Reads}
+use Rattle.std.specs.Result.{result_unwrap_or}
+use Rattle.std.proofs.lemmas.Bool.Decides.{nat_tests}
+use Rattle.fault.specs.declared.Refusal.{Refusal}
+use Rattle.wire.specs.Marks.{byte_outcome, outcome_of, next_outcomes, Reads, MarkRead}
 use Rattle.wire.specs.declared.mark.Mark.{Mark}
+use Rattle.wire.specs.declared.mark.Mark.TheVariants.{Once}
 
 pub cost_few : (o : Outcome) → cost o ≤ 1
 cost_few once = omega arith
@@ -39,21 +43,10 @@ reads_on a xs b ys c first then =
       left = then.left ∙ ap (drop (length ys)) first.left ∙ drop-drop (length ys) (length xs) a ∙ ap (λ n. drop n a) (sym long);
     }
 
--- the mark with number i, where it is read
-module _ (ms : List Mark) (i : ℕ) (m : Mark) (here : i < length ms) (is : m ≡ slice_index_or ms i m) where
-  pub next_mark : to_read i ms ≡ outcome_of m ∷ to_read (i + 1) ms
-  next_mark = ap (map outcome_of) (drop_more ms i m here) ∙ ap (λ x. outcome_of x ∷ to_read (i + 1) ms) (sym is)
-
-  pub costs_next : costs (to_read i ms) ≡ cost (outcome_of m) + costs (to_read (i + 1) ms)
-  costs_next = ap costs next_mark
-
-  pub reads_next : Reads (to_read i ms) (outcome_of m ∷ []) (to_read (i + 1) ms)
-  reads_next = subst (λ a. Reads a (outcome_of m ∷ []) (to_read (i + 1) ms)) (sym next_mark) (record { read = refl; left = refl })
-
-pub reads_past : (ms : List Mark) (i : ℕ) → length ms ≤ i → Reads (to_read i ms) (once ∷ []) (to_read i ms)
-reads_past ms i h =
-    let none : to_read i ms ≡ [] = ap (map outcome_of) (drop_all i ms h) in
-    subst (λ a. Reads a (once ∷ []) a) (sym none) (record { read = refl; left = refl })
+-- a byte that is no mark is taken for `.`
+pub read_or_once : (b : ℕ) (r : Result Mark Refusal) → MarkRead b r → outcome_of (result_unwrap_or r Once) ≡ byte_outcome b
+read_or_once b (Ok m) read = read.1
+read_or_once b (Err r) read = grind (arith, nat_tests, read.0)
 
 -- marks that are made from the first i bytes
 pub record Marked (bytes : List ℕ) (i : ℕ) (ms : List Mark) (troubles : ℕ) : Type 0 where

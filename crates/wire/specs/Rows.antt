@@ -14,4 +14,4 @@ queue_lane q = lane_of (held q)
 
 -- the lanes of the offices; there is room for more
 abbrev pub lanes_of : Rows → List WireLane
-lanes_of r = take (2 * r.offices) (map queue_lane r.queues)
+lanes_of r = take (2 * r.offices.number) (map queue_lane r.queues)

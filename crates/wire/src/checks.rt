@@ -1,20 +1,20 @@
-// The tests that a wire is made by, and the faults of the layer.
-ghost use Rattle.std.specs.Prelude.{◌≡◌};
+// The tests that a marked wire is made by, and the faults of the layer.
+ghost use Rattle.std.specs.Prelude.{◌≡◌, not};
+ghost use Rattle.std.specs.List.{position};
 ghost use Rattle.std.specs.Result.{result_err};
-ghost use Rattle.fault.specs.Faults.{fault as faultOf};
+ghost use Rattle.fault.specs.Faults.{fault as fault_of};
 ghost use Rattle.fault.specs.declared.Layer.TheVariants.{Wire};
 ghost use Rattle.wire.specs.Marks.{is_mark};
-ghost use Rattle.wire.specs.Makers.{clean_fault, bytes_fault, marks_fault};
+ghost use Rattle.wire.specs.Makers.{bytes_fault, marks_fault};
 
+use crate::Mark;
 use fault::{Fault, Layer, Refusal};
-
-const MOST_OFFICES: u32 = 64;
 
 const MOST_MARKS: usize = 65_535;
 
 // A fault of a wire.
 pub(crate) fn wire_fault(refusal: Refusal, place: usize) -> Fault
-    ensures { result ≡ faultOf Wire refusal place }
+    ensures { result ≡ fault_of Wire refusal place }
 {
     Fault {
         layer: Layer::Wire,
@@ -23,32 +23,27 @@ pub(crate) fn wire_fault(refusal: Refusal, place: usize) -> Fault
     }
 }
 
-// Tests that so many offices may share a wire.
-pub(crate) fn check_offices(offices: u32) -> Result<(), Fault>
-    ensures { result_err result ≡ clean_fault offices }
-{
-    if offices < 1 || offices > MOST_OFFICES {
-        return Err(wire_fault(Refusal::OutOfRange, offices as usize));
-    }
-    Ok(())
-}
-
 fn is_mark(byte: u8) -> bool
     ensures { result ≡ is_mark byte }
 {
-    byte == b'.' || byte == b'-' || byte == b'+'
+    Mark::try_from(byte).is_ok()
+}
+
+// The number of the first byte that is no mark.
+fn first_other(bytes: &[u8]) -> Option<usize>
+    ensures { result ≡ position (λ b. not (is_mark b)) bytes.now }
+{
+    bytes.iter().position(|byte| !is_mark(*byte))
 }
 
 // Tests each byte in turn.
 fn check_bytes(bytes: &[u8]) -> Result<(), Fault>
     ensures { result_err result ≡ bytes_fault 0 bytes.now }
 {
-    for (index, byte) in bytes.iter().enumerate() {
-        if !is_mark(*byte) {
-            return Err(wire_fault(Refusal::NotAMark, index));
-        }
+    match first_other(bytes) {
+        Some(index) => Err(wire_fault(Refusal::NotAMark, index)),
+        None => Ok(()),
     }
-    Ok(())
 }
 
 // Tests how many marks there are, and then each of them.

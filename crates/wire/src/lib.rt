@@ -5,17 +5,19 @@ ghost use Rattle.std.specs.Prelude.{◌≡◌, ℕ, true, List, [], ◌++◌, is
 ghost use Rattle.wire.specs.Wires.{WireLane, Outcome, WireLaw, PutDone, TakeDone};
 
 mod checks;
-mod clean_wire;
 mod mark;
-mod marked_wire;
+mod mark_source;
 mod marks;
 mod rows;
+mod table_wire;
 #[cfg(test)]
 mod tests;
 
-pub use clean_wire::CleanWire;
 use fault::Fault;
-pub use marked_wire::MarkedWire;
+pub use mark::Mark;
+pub use mark_source::{MarkSource, NoMarks};
+pub use marks::Marks;
+pub use table_wire::{CleanWire, MarkedWire, TableWire};
 
 // Two lanes for each office. A frame that is put may be lost or joined twice, as often as the wire has troubles left.
 pub trait Wire {

@@ -1,18 +1,18 @@
-// The marks of a wire, and how far they are read.
-ghost use Rattle.std.specs.Prelude.{◌≡◌, ◌≤◌};
+// The marks of a wire, read one after another.
+ghost use Rattle.std.specs.Prelude.{◌≡◌, ◌≤◌, map};
 ghost use Rattle.wire.specs.Wires.{costs};
-ghost use Rattle.wire.specs.Marks.{to_read};
+ghost use Rattle.wire.specs.Marks.{outcome_of};
 
-use crate::mark::Mark;
+use crate::Mark;
+use std::collections::VecDeque;
 
 mod reading;
 
-// The first `read` marks are read; `troubles` counts the losses and doublings among the others.
+// The marks to read, and how many losses and doublings there are among them.
 #[derive(Drop)]
-pub(crate) struct Marks {
-    list: Vec<Mark>,
-    read: usize,
+pub struct Marks {
+    list: VecDeque<Mark>,
     troubles: u32,
-    ghost counted: { troubles ≡ costs (to_read read list.items) },
+    ghost counted: { troubles ≡ costs (map outcome_of list.items) },
     ghost few: { troubles ≤ 65535 },
 }

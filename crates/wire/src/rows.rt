@@ -1,15 +1,15 @@
 // The lanes of the offices as rows of waiting frames, with room for every lane that there can be.
-ghost use Rattle.std.specs.Prelude.{◌≡◌, ◌≤◌, length};
+ghost use Rattle.std.specs.Prelude.{◌≡◌, length};
 
+use offices::OfficeCount;
 use queue::Queue;
 
 mod moving;
 
+// Kept: a fixed table beside the number of offices, since a put may not want memory.
 #[derive(Drop)]
-pub(crate) struct Rows {
-    offices: u32,
+pub struct Rows {
+    offices: OfficeCount,
     queues: [Queue<u16>; 128],
-    ghost some: { 1 ≤ offices },
-    ghost few: { offices ≤ 64 },
     ghost wide: { length queues ≡ 128 },
 }

@@ -1,14 +1,16 @@
 // How marks are made from bytes, and read one after another.
-ghost use Rattle.std.specs.Prelude.{◌≡◌, ◌+◌, ◌≤◌, [], ◌∷◌, map, length, MatchResult};
-ghost use Rattle.wire.specs.Wires.{cost, costs};
-ghost use Rattle.wire.specs.Marks.{outcome_of, byte_outcome, Reads};
-ghost use Rattle.wire.specs.Kinds.{marks_left};
+ghost use Rattle.std.specs.Prelude.{◌≡◌, ◌≤◌, map, length, MatchResult, refl};
+ghost use Rattle.wire.specs.Wires.{costs};
+ghost use Rattle.wire.specs.Marks.{byte_outcome};
+ghost use Rattle.wire.specs.Kinds.{MarkedRan, marks_left};
+ghost use Rattle.wire.specs.Outcomes.{reads_on};
 ghost use Rattle.fault.specs.declared.failure.Failure.TheVariants.{NoMemory};
 
 use super::Marks;
-use crate::mark::Mark;
+use crate::{Mark, MarkSource};
 use fault::Failure;
 use std::alloc::Global;
+use std::collections::VecDeque;
 
 impl Marks {
     // The marks that the bytes are, none of them read yet.
@@ -16,37 +18,35 @@ impl Marks {
         requires { length bytes.now ≤ 65535 }
         ensures { MatchResult result (λ m. (marks_left m ≡ map byte_outcome bytes.now) × (m.troubles ≡ costs (map byte_outcome bytes.now))) (λ e. e ≡ NoMemory) }
     {
-        let mut list = Vec::new(heap);
+        let mut list = VecDeque::new(heap);
         let mut troubles = 0;
         for byte in bytes {
-            let mark = Mark::of_byte(*byte);
+            let mark = Mark::try_from(*byte).unwrap_or(Mark::Once);
             troubles += mark.cost();
-            list.push(mark)?;
+            list.push_back(mark)?;
         }
-        Ok(Marks {
-            list,
-            read: 0,
-            troubles,
-        })
+        Ok(Marks { list, troubles })
     }
+}
 
-    // The losses and doublings that are not read yet.
-    pub(crate) fn troubles(&self) -> u32
-        ensures { result ≡ self.now.troubles }
-    {
+impl MarkSource for Marks {
+    ghost troubles = { λ m. m.troubles };
+
+    ghost read = { MarkedRan };
+
+    ghost none_read = { λ m. record { read = refl; left = refl } };
+
+    ghost reads_on = { λ r s t xs ys a b. reads_on _ xs _ ys _ a b };
+
+    ghost few = { λ m. m.few };
+
+    fn troubles_left(&self) -> u32 {
         self.troubles
     }
 
-    // Reads the next mark; past the last one, that a frame joins once.
-    pub(crate) fn next(&mut self) -> Mark
-        ensures reads { Reads (marks_left self.old) (outcome_of result ∷ []) (marks_left self.new) }
-        ensures falls { self.old.troubles ≡ self.new.troubles + cost (outcome_of result) }
-    {
-        if self.read >= self.list.len() {
-            return Mark::Once;
-        }
-        let mark = self.list[self.read];
-        self.read += 1;
+    // Past the last mark every frame joins once.
+    fn next(&mut self) -> Mark {
+        let mark = self.list.pop_front().unwrap_or(Mark::Once);
         self.troubles -= mark.cost();
         mark
     }

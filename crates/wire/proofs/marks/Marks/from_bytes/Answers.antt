@@ -1,13 +1,10 @@
 use Rattle.std.proofs.Common.{ap, ◌∙◌}
-use Rattle.wire.specs.Wires.{costs}
-use Rattle.wire.specs.Outcomes.{marked_more, marked_all}
+use Rattle.std.specs.List.{slice_index}
+use Rattle.wire.specs.Marks.{outcome_of}
+use Rattle.wire.specs.Outcomes.{marked_more, read_or_once}
 use Rattle.wire.proofs.marks.Marks.from_bytes.Goals as goal
 
 pub loop-byte-preserved : goal.loop-byte-preserved
 loop-byte-preserved c =
-    marked_more c.args.bytes.now c.loop-byte.byte-index _ _ c.loop-byte.troubles c.cost-troubles.result c.of_byte-mark.result c.loop-byte-test.true c.loop-byte.invariant c.of_byte-mark.ensures c.cost-troubles.ensures c.in_ok-push.ensures.items
-
-pub returns : goal.returns
-returns c =
-    let says = marked_all c.args.bytes.now c.loop-byte.byte-index _ _ c.loop-byte-test.false c.loop-byte.invariant in
-    (says, c.loop-byte.invariant.counts ∙ ap costs says)
+    let reads = ap outcome_of c.unwrap_or-mark.ensures ∙ read_or_once (slice_index c.args.bytes.now c.loop-byte.byte-index) c.try_from.result c.try_from.ensures in
+    marked_more c.args.bytes.now c.loop-byte.byte-index _ _ c.loop-byte.troubles c.cost-troubles.result c.unwrap_or-mark.result c.loop-byte-test.true c.loop-byte.invariant reads c.cost-troubles.ensures c.in_ok-push_back.ensures.items
