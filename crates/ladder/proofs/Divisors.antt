@@ -1,37 +1,13 @@
 -- The test of the divisors in turn, and what a list that passes it has.
-use Rattle.std.proofs.Common.{◌≡◌, ℕ, zero, suc, ◌+◌, ◌*◌, ◌<◌, ◌≤◌, ◌⊎◌, List, [], ◌∷◌, ◌++◌, length, get_or, take, drop, Some, None, Option, sym, ap, ◌∙◌, subst, mul_assoc, arith}
-use Rattle.std.proofs.lemmas.List.{at_drop_more, take_at}
+use Rattle.std.proofs.Common.{◌≡◌, ℕ, zero, suc, ◌*◌, ◌<◌, ◌≤◌, List, [], ◌∷◌, ◌++◌, length, get_or, take, None, Option, sym, ap, ◌∙◌, subst, mul_assoc, arith}
+use Rattle.std.proofs.lemmas.List.{take_at}
 use Rattle.std.proofs.lemmas.Bool.Decides.{nat_tests}
 use Rattle.fault.specs.declared.Fault.{Fault}
-use Rattle.ladder.specs.Makers.{divisors_fault, listed_fault, out_of_range, size_fault}
+use Rattle.ladder.specs.Makers.{divisors_fault, listed_fault, size_fault}
 use Rattle.ladder.specs.Slacks.{product}
 
-module _ (top d : ℕ) (ds : List ℕ) where
-  range_fault : (d < 2) ⊎ ((2 ≤ d) × (16 < d)) → divisors_fault top (d ∷ ds) ≡ Some (out_of_range d)
-  range_fault outside = grind (arith, nat_tests)
-
-  top_fault : 2 ≤ d → d ≤ 16 → 16777216 < top * d → divisors_fault top (d ∷ ds) ≡ Some (out_of_range d)
-  top_fault low high past = grind (arith, nat_tests)
-
-  passes : 2 ≤ d → d ≤ 16 → top * d ≤ 16777216 → divisors_fault top (d ∷ ds) ≡ divisors_fault (top * d) ds
-  passes low high fits = grind (arith, nat_tests)
-
-  passed : divisors_fault top (d ∷ ds) ≡ None → (2 ≤ d) × (d ≤ 16) × (top * d ≤ 16777216) × (divisors_fault (top * d) ds ≡ None)
-  passed none = grind (arith, nat_tests)
-
--- one turn of the loop over xs, where what is left to test gives what is owed
-module _ (top : ℕ) (xs : List ℕ) (i : ℕ) (owed : Option Fault) (left : divisors_fault top (drop i xs) ≡ owed) (here : i < length xs) where
-  next : divisors_fault top (get_or xs i 0 ∷ drop (i + 1) xs) ≡ owed
-  next = sym (at_drop_more (divisors_fault top) xs i 0 here) ∙ left
-
-  pub refused_range : (get_or xs i 0 < 2) ⊎ ((2 ≤ get_or xs i 0) × (16 < get_or xs i 0)) → Some (out_of_range (get_or xs i 0)) ≡ owed
-  refused_range outside = sym (range_fault top (get_or xs i 0) (drop (i + 1) xs) outside) ∙ next
-
-  pub refused_top : 2 ≤ get_or xs i 0 → get_or xs i 0 ≤ 16 → 16777216 < top * get_or xs i 0 → Some (out_of_range (get_or xs i 0)) ≡ owed
-  refused_top low high past = sym (top_fault top (get_or xs i 0) (drop (i + 1) xs) low high past) ∙ next
-
-  pub goes_on : 2 ≤ get_or xs i 0 → get_or xs i 0 ≤ 16 → top * get_or xs i 0 ≤ 16777216 → divisors_fault (top * get_or xs i 0) (drop (i + 1) xs) ≡ owed
-  goes_on low high fits = sym (passes top (get_or xs i 0) (drop (i + 1) xs) low high fits) ∙ next
+passed : (top d : ℕ) (ds : List ℕ) → divisors_fault top (d ∷ ds) ≡ None → (2 ≤ d) × (d ≤ 16) × (top * d ≤ 16777216) × (divisors_fault (top * d) ds ≡ None)
+passed top d ds none = grind (arith, nat_tests)
 
 -- what a list without a fault has
 pub record Sound (top : ℕ) (ds : List ℕ) : Type 0 where

@@ -33,7 +33,7 @@ product_drop_le (x ∷ xs) (suc k) each =
 
 -- one turn of the loop that multiplies
 module _ (s : ℕ) (xs : List ℕ) (i owed : ℕ) (left : s * product (drop i xs) ≡ owed) (here : i < length xs) where
-  pub multiplied : s * slice_index xs i * product (drop (i + 1) xs) ≡ owed
+  multiplied : s * slice_index xs i * product (drop (i + 1) xs) ≡ owed
   multiplied =
       mul_assoc s (slice_index xs i) (product (drop (i + 1) xs)) ∙ ap (λ n. s * n) (sym (at_drop_more product xs i 0 here)) ∙ left
 
@@ -41,9 +41,6 @@ module _ (s : ℕ) (xs : List ℕ) (i owed : ℕ) (left : s * product (drop i xs
   below_owed each =
       let rest : 1 ≤ product (drop (i + 1) xs) = product_positive (drop (i + 1) xs) (positive_drop xs (i + 1) each) in
       omega (arith, mul-le-mul_left (s * slice_index xs i) rest, multiplied)
-
-pub all_multiplied : (s : ℕ) (xs : List ℕ) (i owed : ℕ) → s * product (drop i xs) ≡ owed → length xs ≤ i → s ≡ owed
-all_multiplied s xs i owed left past = omega (arith, left, ap (λ n. s * n) (at_drop_all product xs i past))
 
 -- the divisors of a listed ladder: the first e numbers of its table
 module _ (g e : ℕ) (table : List ℕ) (top : g * product (take e table) ≤ 16777216) (low : (i : ℕ) → i < e → 2 ≤ slice_index (take e table) i) where

@@ -10,6 +10,7 @@ use crate::ranges::{LARGEST_DIVISOR, LARGEST_TOP, check_size, no_such_step, out_
 use fault::Fault;
 
 // The first `steps` places of the table are in use.
+// Kept: a fixed table with its count, since making a ladder may not want memory and a ladder is copied.
 #[derive(Clone, Copy, Debug)]
 pub struct Listed {
     grain: u32,
@@ -31,7 +32,7 @@ fn check_divisors(grain: u32, divisors: &[u32]) -> Result<(), Fault>
     let mut top = grain;
     for divisor in divisors {
         let divisor = *divisor;
-        if divisor < 2 || divisor > LARGEST_DIVISOR {
+        if !(2..=LARGEST_DIVISOR).contains(&divisor) {
             return Err(out_of_range(divisor as usize));
         }
         top *= divisor;

@@ -38,10 +38,10 @@ pub fn no_such_step(step: u32) -> Fault
 pub fn check_size(grain: u32, steps: usize) -> Result<(), Fault>
     ensures { result_err result ≡ size_fault grain steps None }
 {
-    if grain < 1 || grain > LARGEST_GRAIN {
+    if !(1..=LARGEST_GRAIN).contains(&grain) {
         return Err(out_of_range(grain as usize));
     }
-    if steps < 1 || steps > MOST_STEPS {
+    if !(1..=MOST_STEPS).contains(&steps) {
         return Err(out_of_range(steps));
     }
     Ok(())

@@ -13,7 +13,7 @@ pub fn same_ladder<First: Ladder, Second: Ladder>(first: &First, second: &Second
     if steps != second.step_count() {
         return false;
     }
-    for step in 0..steps + 1 {
+    for step in 0..=steps {
         if first.slack_of(step) != second.slack_of(step) {
             return false;
         }

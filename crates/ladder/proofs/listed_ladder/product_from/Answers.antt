@@ -1,15 +1,7 @@
 use Rattle.std.proofs.Common.{arith}
-use Rattle.ladder.specs.Products.{multiplied, below_owed, all_multiplied}
+use Rattle.ladder.specs.Products.{below_owed}
 use Rattle.ladder.proofs.listed_ladder.product_from.Goals as goal
 
 pub overflow_mul-slack : goal.overflow_mul-slack
 overflow_mul-slack c =
     omega (arith, below_owed c.loop-divisor.slack c.args.divisors.now c.loop-divisor.divisor-index _ c.loop-divisor.invariant c.loop-divisor-test.true c.requires.by_index, c.requires.divisors_bound)
-
-pub loop-divisor-preserved : goal.loop-divisor-preserved
-loop-divisor-preserved c =
-    multiplied c.loop-divisor.slack c.args.divisors.now c.loop-divisor.divisor-index _ c.loop-divisor.invariant c.loop-divisor-test.true
-
-pub returns : goal.returns
-returns c =
-    all_multiplied c.loop-divisor.slack c.args.divisors.now c.loop-divisor.divisor-index _ c.loop-divisor.invariant c.loop-divisor-test.false

@@ -1,5 +1,4 @@
-use Rattle.std.proofs.Common.{refl}
-use Rattle.ladder.proofs.Divisors.{begins, list_checked, top_in_use, low_in_use, high_in_use}
+use Rattle.ladder.proofs.Divisors.{list_checked, top_in_use, low_in_use, high_in_use}
 use Rattle.ladder.proofs.listed_ladder.Listed.of_checked.Goals as goal
 
 pub invariant_of-result : goal.invariant_of-result
@@ -17,6 +16,3 @@ invariant_of-result c =
       low = low_in_use grain divisors copy _ c.requires same;
       high = high_in_use grain divisors copy _ c.requires same;
     }
-
-pub returns : goal.returns
-returns c = (refl, refl, begins c.args.grain c.args.divisors.now c.copy_from_slice.new.self _ c.requires c.copy_from_slice.ensures.after)
