@@ -7,7 +7,7 @@ use Rattle.fault.specs.Faults.{fault}
 use Rattle.fault.specs.declared.Fault.{Fault}
 use Rattle.fault.specs.declared.Layer.TheVariants.{Wire}
 use Rattle.fault.specs.declared.Refusal.TheVariants.{NotAMark}
-use Rattle.wire.specs.Marks.{is_mark}
+use Rattle.marks.specs.MarkBytes.{is_mark}
 use Rattle.wire.specs.Makers.{bytes_fault}
 
 abbrev other_at : ℕ → Fault

@@ -6,7 +6,7 @@ use Rattle.wire.specs.Marks.{outcome_of, byte_outcome, Reads}
 use Rattle.wire.specs.Rows.{lanes_of}
 use Rattle.wire.specs.Makers.{clean_fault, marked_fault}
 use Rattle.wire.specs.declared.mark_source.NoMarks.{NoMarks}
-use Rattle.wire.specs.declared.marks.Marks.{Marks}
+use Rattle.wire.specs.declared.marks_list.Marks.{Marks}
 use Rattle.wire.specs.declared.rows.Rows.{Rows}
 use Rattle.wire.specs.declared.table_wire.TableWire.{TableWire}
 use Rattle.fault.specs.declared.failure.Failure.{Failure}

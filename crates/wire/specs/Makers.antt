@@ -4,7 +4,7 @@ use Rattle.fault.specs.Faults.{fault}
 use Rattle.fault.specs.declared.Fault.{Fault}
 use Rattle.fault.specs.declared.Layer.TheVariants.{Wire}
 use Rattle.fault.specs.declared.Refusal.TheVariants.{OutOfRange, TextTooLong, NotAMark}
-use Rattle.wire.specs.Marks.{is_mark}
+use Rattle.marks.specs.MarkBytes.{is_mark}
 
 -- There are 1 to 64 offices; then the rest decides.
 abbrev pub offices_fault : (offices : ℕ) → Option Fault → Option Fault

@@ -1,14 +1,8 @@
 -- What marks say, as bytes and as the wire holds them, and which outcomes they lead to. Assumes nothing.
-use Rattle.std.specs.Prelude.{◌≡◌, ℕ, zero, suc, Bool, true, false, cond, ◌||◌, List, [], ◌∷◌, length, drop, Ok, Err, Result, ◌==◌}
-use Rattle.fault.specs.declared.Refusal.{Refusal}
-use Rattle.fault.specs.declared.Refusal.TheVariants.{NotAMark}
+use Rattle.std.specs.Prelude.{◌≡◌, ℕ, zero, suc, cond, List, [], ◌∷◌, length, drop, ◌==◌}
 use Rattle.wire.specs.Wires.{Outcome, once, lost, twice}
-use Rattle.wire.specs.declared.mark.Mark.{Mark}
-use Rattle.wire.specs.declared.mark.Mark.TheVariants.{Once, Lost, Twice}
-
--- a mark is a byte `.`, `-` or `+`
-abbrev pub is_mark : ℕ → Bool
-is_mark b = b == 46 || (b == 45 || b == 43)
+use Rattle.marks.specs.declared.Mark.{Mark}
+use Rattle.marks.specs.declared.Mark.TheVariants.{Once, Lost, Twice}
 
 -- what a mark says of one put: `-` that the frame is lost, `+` that it joins twice, and `.` that it joins once
 abbrev pub byte_outcome : ℕ → Outcome
@@ -18,11 +12,6 @@ abbrev pub outcome_of : Mark → Outcome
 outcome_of Once = once
 outcome_of Lost = lost
 outcome_of Twice = twice
-
--- the mark that a byte is, or the refusal of a byte that is none
-abbrev pub MarkRead : ℕ → Result Mark Refusal → Type 0
-MarkRead b (Ok m) = (is_mark b ≡ true) × (outcome_of m ≡ byte_outcome b)
-MarkRead b (Err r) = (is_mark b ≡ false) × (r ≡ NotAMark)
 
 -- the next n outcomes where the marks to read say os; past the last mark every frame joins once
 abbrev pub next_outcomes : (n : ℕ) (os : List Outcome) → List Outcome

@@ -6,9 +6,10 @@ use Rattle.wire.specs.Wires.{Outcome, once, lost, twice, copies, arrivals, cost,
 use Rattle.std.specs.Result.{result_unwrap_or}
 use Rattle.std.proofs.lemmas.Bool.Decides.{nat_tests}
 use Rattle.fault.specs.declared.Refusal.{Refusal}
-use Rattle.wire.specs.Marks.{byte_outcome, outcome_of, next_outcomes, Reads, MarkRead}
-use Rattle.wire.specs.declared.mark.Mark.{Mark}
-use Rattle.wire.specs.declared.mark.Mark.TheVariants.{Once}
+use Rattle.wire.specs.Marks.{byte_outcome, outcome_of, next_outcomes, Reads}
+use Rattle.marks.specs.MarkBytes.{MarkRead}
+use Rattle.marks.specs.declared.Mark.{Mark}
+use Rattle.marks.specs.declared.Mark.TheVariants.{Once, Lost, Twice}
 
 pub cost_few : (o : Outcome) → cost o ≤ 1
 cost_few once = omega arith
@@ -45,7 +46,9 @@ reads_on a xs b ys c first then =
 
 -- a byte that is no mark is taken for `.`
 pub read_or_once : (b : ℕ) (r : Result Mark Refusal) → MarkRead b r → outcome_of (result_unwrap_or r Once) ≡ byte_outcome b
-read_or_once b (Ok m) read = read.1
+read_or_once b (Ok Once) read = ap byte_outcome read
+read_or_once b (Ok Lost) read = ap byte_outcome read
+read_or_once b (Ok Twice) read = ap byte_outcome read
 read_or_once b (Err r) read = grind (arith, nat_tests, read.0)
 
 -- marks that are made from the first i bytes

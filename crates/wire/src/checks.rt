@@ -4,11 +4,11 @@ ghost use Rattle.std.specs.List.{position};
 ghost use Rattle.std.specs.Result.{result_err};
 ghost use Rattle.fault.specs.Faults.{fault as fault_of};
 ghost use Rattle.fault.specs.declared.Layer.TheVariants.{Wire};
-ghost use Rattle.wire.specs.Marks.{is_mark};
+ghost use Rattle.marks.specs.MarkBytes.{is_mark};
 ghost use Rattle.wire.specs.Makers.{bytes_fault, marks_fault};
 
-use crate::Mark;
 use fault::{Fault, Layer, Refusal};
+use marks::Mark;
 
 const MOST_MARKS: usize = 65_535;
 
@@ -23,17 +23,11 @@ pub(crate) fn wire_fault(refusal: Refusal, place: usize) -> Fault
     }
 }
 
-fn is_mark(byte: u8) -> bool
-    ensures { result ≡ is_mark byte }
-{
-    Mark::try_from(byte).is_ok()
-}
-
 // The number of the first byte that is no mark.
 fn first_other(bytes: &[u8]) -> Option<usize>
     ensures { result ≡ position (λ b. not (is_mark b)) bytes.now }
 {
-    bytes.iter().position(|byte| !is_mark(*byte))
+    bytes.iter().position(|byte| !Mark::is_written(*byte))
 }
 
 // Tests each byte in turn.

@@ -5,18 +5,17 @@ ghost use Rattle.std.specs.Prelude.{◌≡◌, ℕ, true, List, [], ◌++◌, is
 ghost use Rattle.wire.specs.Wires.{WireLane, Outcome, WireLaw, PutDone, TakeDone};
 
 mod checks;
-mod mark;
 mod mark_source;
-mod marks;
+mod marks_list;
+mod outcomes;
 mod rows;
 mod table_wire;
 #[cfg(test)]
 mod tests;
 
 use fault::Fault;
-pub use mark::Mark;
 pub use mark_source::{MarkSource, NoMarks};
-pub use marks::Marks;
+pub use marks_list::Marks;
 pub use table_wire::{CleanWire, MarkedWire, TableWire};
 
 // Two lanes for each office. A frame that is put may be lost or joined twice, as often as the wire has troubles left.

@@ -6,7 +6,7 @@ ghost use Rattle.wire.specs.Kinds.{CleanRan};
 ghost use Rattle.wire.specs.Outcomes.{all_once};
 ghost use Rattle.std.proofs.Common.{arith};
 
-use crate::Mark;
+use marks::Mark;
 
 // One mark is read for each frame that is put, on any lane.
 pub trait MarkSource {

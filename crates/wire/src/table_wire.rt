@@ -4,7 +4,8 @@ ghost use Rattle.wire.specs.Rows.{lanes_of};
 ghost use Rattle.wire.specs.InUse.{rows_sound};
 
 use crate::checks::check_marks;
-use crate::marks::Marks;
+use crate::marks_list::Marks;
+use crate::outcomes::join;
 use crate::rows::Rows;
 use crate::{MarkSource, NoMarks, Wire};
 use fault::{Failure, Fault};
@@ -75,7 +76,7 @@ impl<M: MarkSource> Wire for TableWire<M> {
 
     fn put(&mut self, lane: u32, frame: u16) -> Result<(), Fault> {
         let mut queue = self.rows.open_queue(lane)?;
-        self.marks.next().join(&mut queue, frame);
+        join(self.marks.next(), &mut queue, frame);
         self.rows.store(lane, queue);
         Ok(())
     }

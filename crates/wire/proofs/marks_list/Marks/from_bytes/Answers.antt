@@ -2,7 +2,7 @@ use Rattle.std.proofs.Common.{ap, ◌∙◌}
 use Rattle.std.specs.List.{slice_index}
 use Rattle.wire.specs.Marks.{outcome_of}
 use Rattle.wire.specs.Outcomes.{marked_more, read_or_once}
-use Rattle.wire.proofs.marks.Marks.from_bytes.Goals as goal
+use Rattle.wire.proofs.marks_list.Marks.from_bytes.Goals as goal
 
 pub loop-byte-preserved : goal.loop-byte-preserved
 loop-byte-preserved c =

@@ -3,7 +3,7 @@ ghost use Rattle.std.specs.Prelude.{◌≡◌, ◌≤◌, map};
 ghost use Rattle.wire.specs.Wires.{costs};
 ghost use Rattle.wire.specs.Marks.{outcome_of};
 
-use crate::Mark;
+use marks::Mark;
 use std::collections::VecDeque;
 
 mod reading;

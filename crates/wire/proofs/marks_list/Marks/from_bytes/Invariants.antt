@@ -1,5 +1,5 @@
 use Rattle.wire.specs.Outcomes.{Marked}
-use Rattle.wire.proofs.marks.Marks.from_bytes.Given as goal
+use Rattle.wire.proofs.marks_list.Marks.from_bytes.Given as goal
 
 abbrev pub invariant-loop-byte : goal.invariant-loop-byte
 invariant-loop-byte l = Marked l.bytes l.byte-index l.list.items l.troubles

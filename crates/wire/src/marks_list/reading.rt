@@ -7,8 +7,10 @@ ghost use Rattle.wire.specs.Outcomes.{reads_on};
 ghost use Rattle.fault.specs.declared.failure.Failure.TheVariants.{NoMemory};
 
 use super::Marks;
-use crate::{Mark, MarkSource};
+use crate::MarkSource;
+use crate::outcomes::cost;
 use fault::Failure;
+use marks::Mark;
 use std::alloc::Global;
 use std::collections::VecDeque;
 
@@ -22,7 +24,7 @@ impl Marks {
         let mut troubles = 0;
         for byte in bytes {
             let mark = Mark::try_from(*byte).unwrap_or(Mark::Once);
-            troubles += mark.cost();
+            troubles += cost(mark);
             list.push_back(mark)?;
         }
         Ok(Marks { list, troubles })
@@ -47,7 +49,7 @@ impl MarkSource for Marks {
     // Past the last mark every frame joins once.
     fn next(&mut self) -> Mark {
         let mark = self.list.pop_front().unwrap_or(Mark::Once);
-        self.troubles -= mark.cost();
+        self.troubles -= cost(mark);
         mark
     }
 }
