@@ -37,39 +37,39 @@ impl Layer {
     }
 }
 
-// Why it refuses.
+// Why it refuses, with the number by which it is known outside.
 #[derive(Clone, Copy, Debug, PartialEq, Eq)]
 pub enum Refusal {
     // There is no such office or lane.
-    NoSuchOfficeOrLane,
+    NoSuchOfficeOrLane = 1,
     // The window is closed.
-    WindowClosed,
+    WindowClosed = 2,
     // Sixteen bytes wait on the lane.
-    SixteenWait,
+    SixteenWait = 3,
     // 65,535 bytes were sent on the lane.
-    AllSent,
+    AllSent = 4,
     // The post was used before the window opened on it.
-    PostUsed,
+    PostUsed = 5,
     // More than 14 places of the lane are taken.
-    PlacesTaken,
+    PlacesTaken = 6,
     // There is no such step.
-    NoSuchStep,
+    NoSuchStep = 7,
     // The text has more than 65,535 bytes.
-    TextTooLong,
+    TextTooLong = 8,
     // An expected key, separator or line end is not there.
-    NotAsExpected,
+    NotAsExpected = 9,
     // There is no digit, a zero before a digit, or more than eight digits.
-    NotANumber,
+    NotANumber = 10,
     // The number is outside its range.
-    OutOfRange,
+    OutOfRange = 11,
     // The ladder or the post does not begin with one of its words.
-    UnknownWord,
+    UnknownWord = 12,
     // The byte is no mark.
-    NotAMark,
+    NotAMark = 13,
     // Bytes follow the last line.
-    BytesAfterEnd,
+    BytesAfterEnd = 14,
     // The report does not fit its buffer.
-    BufferTooShort,
+    BufferTooShort = 15,
 }
 
 impl Refusal {
@@ -77,23 +77,7 @@ impl Refusal {
     pub fn number(self) -> u32
         ensures { result ≡ refusal_number self }
     {
-        match self {
-            Refusal::NoSuchOfficeOrLane => 1,
-            Refusal::WindowClosed => 2,
-            Refusal::SixteenWait => 3,
-            Refusal::AllSent => 4,
-            Refusal::PostUsed => 5,
-            Refusal::PlacesTaken => 6,
-            Refusal::NoSuchStep => 7,
-            Refusal::TextTooLong => 8,
-            Refusal::NotAsExpected => 9,
-            Refusal::NotANumber => 10,
-            Refusal::OutOfRange => 11,
-            Refusal::UnknownWord => 12,
-            Refusal::NotAMark => 13,
-            Refusal::BytesAfterEnd => 14,
-            Refusal::BufferTooShort => 15,
-        }
+        self as u32
     }
 }
 
