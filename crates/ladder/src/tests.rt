@@ -1,14 +1,7 @@
 // Both kinds of ladder on worked values.
 use super::*;
+use refusals::refusal_of;
 use std::test::Fail;
-
-// The number and the place of a refusal, or zeros where there is none.
-fn refusal_of<T: Drop>(answer: Result<T, Fault>) -> (u32, usize) {
-    match answer {
-        Ok(_) => (0, 0),
-        Err(fault) => (fault.refusal.number(), fault.place),
-    }
-}
 
 #[test]
 fn slacks(rt: HostRuntime) -> Result<(), Fail> {

@@ -1,24 +1,7 @@
 // Both wires on worked values.
 use super::*;
-use fault::Failure;
+use refusals::refusal_of;
 use std::test::Fail;
-
-// The number and the place of a refusal, or zeros where there is none.
-fn refusal_of<T: Drop>(answer: Result<T, Fault>) -> (u32, usize) {
-    match answer {
-        Ok(_) => (0, 0),
-        Err(fault) => (fault.refusal.number(), fault.place),
-    }
-}
-
-// The same of a marked wire that was to be made; 99 stands for want of memory.
-fn refusal_of_making(answer: Result<MarkedWire, Failure>) -> (u32, usize) {
-    match answer {
-        Ok(_) => (0, 0),
-        Err(Failure::Faulty(fault)) => (fault.refusal.number(), fault.place),
-        Err(Failure::NoMemory) => (99, 0),
-    }
-}
 
 #[test]
 fn frames_in_order(rt: HostRuntime) -> Result<(), Fail> {
@@ -86,11 +69,11 @@ fn refusals_of_makers(rt: HostRuntime) {
         refusal_of(CleanWire::new(65)),
     ];
     let marked = [
-        refusal_of_making(MarkedWire::new(rt.alloc(), 0, b"x")),
-        refusal_of_making(MarkedWire::new(rt.alloc(), 65, &many)),
-        refusal_of_making(MarkedWire::new(rt.alloc(), 1, &many)),
-        refusal_of_making(MarkedWire::new(rt.alloc(), 1, b".-x+y")),
-        refusal_of_making(MarkedWire::new(rt.alloc(), 64, &many[0..65_535])),
+        refusal_of(MarkedWire::new(rt.alloc(), 0, b"x")),
+        refusal_of(MarkedWire::new(rt.alloc(), 65, &many)),
+        refusal_of(MarkedWire::new(rt.alloc(), 1, &many)),
+        refusal_of(MarkedWire::new(rt.alloc(), 1, b".-x+y")),
+        refusal_of(MarkedWire::new(rt.alloc(), 64, &many[0..65_535])),
     ];
     assert_eq!(rt; clean, [(11, 0), (11, 65)]);
     assert_eq!(rt; marked, [(11, 0), (11, 65), (8, 65_535), (13, 2), (0, 0)]);
