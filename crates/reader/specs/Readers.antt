@@ -1,5 +1,5 @@
 -- What a call on a reader does: the answer of a reading, and where the reader stands after it. Assumes nothing.
-use Rattle.std.specs.Prelude.{◌≡◌, ℕ, List, Ok, Err, Result}
+use Rattle.std.specs.Prelude.{◌≡◌, ℕ, ◌^◌, ◌<◌, Bool, List, Ok, Err, Result}
 use Rattle.fault.specs.declared.Fault.{Fault}
 use Rattle.reader.specs.declared.Reader.{Reader}
 use Rattle.reader.specs.Readings.{Reading}
@@ -16,6 +16,10 @@ from reading r = reading r.layer (text_of r) r.place
 abbrev pub Answers : {X : Type 0} → Result (X × ℕ) Fault → Result X Fault → ℕ → Type 0
 Answers s (Ok x) q = s ≡ Ok (x, q)
 Answers s (Err f) q = (s ≡ Err f) × (q ≡ f.place)
+
+-- whatever a call may answer at a number is what test gives there
+abbrev pub Computes : (ℕ → Bool → Type 0) → (ℕ → Bool) → Type 0
+Computes Tells test = (n : ℕ) (b : Bool) → n < 2 ^ 32 → Tells n b → b ≡ test n
 
 -- only the reader's place may change
 pub record SameText (before after : Reader) : Type 0 where

@@ -2,18 +2,14 @@
 ghost use Rattle.std.specs.Prelude.{◌≡◌, ◌+◌, ◌<◌, ◌≤◌, true, length, drop, if◌then◌else◌};
 ghost use Rattle.reader.specs.Bytes.{line_end};
 
-// Whether a byte 10 stands at `place`.
-fn ends_line(text: &[u8], place: usize) -> bool
-    ensures value { line_end (drop place text.now) ≡ (if result then 1 else 0) }
-    ensures bound { result ≡ true → place < length text.now }
-{
-    place < text.len() && text[place] == b'\n'
-}
-
 // How many bytes the line end at `place` has: one, a byte 10, or 0 where none stands there.
 pub fn line_end_length(text: &[u8], place: usize) -> usize
     ensures value { result ≡ line_end (drop place text.now) }
     ensures bound { place ≤ length text.now → place + result ≤ length text.now }
 {
-    if ends_line(text, place) { 1 } else { 0 }
+    if text.get(place) == Some(&b'\n') {
+        1
+    } else {
+        0
+    }
 }

@@ -1,12 +1,11 @@
 // The reader's calls. Each ends past what it accepted, or, at a fault, at the fault's place.
-ghost use Rattle.std.specs.Prelude.{◌≡◌, ℕ, ◌+◌, ◌<◌, ◌≤◌, true, length, drop, if◌then◌else◌, ◌==◌, nat_lt};
-ghost use Rattle.std.specs.List.{prefix_len};
+ghost use Rattle.std.specs.Prelude.{◌≡◌, IfOk, ℕ, Bool, ◌+◌, ◌<◌, ◌≤◌, true, length, drop, if◌then◌else◌, ◌==◌, nat_lt};
 ghost use Rattle.std.specs.Str.{all_ascii_digits};
 ghost use Rattle.fault.specs.Faults.{fault as fault_at};
 ghost use Rattle.fault.specs.declared.Refusal.TheVariants.{OutOfRange};
 ghost use Rattle.reader.specs.Bytes.{of_kind, run, line_end};
-ghost use Rattle.reader.specs.Readings.{begins_at, expect as expected, end_line, end_text, digits_value, number_here, number_in as numbers_in, line_of};
-ghost use Rattle.reader.specs.Readers.{text_of, from, Answers, SameText};
+ghost use Rattle.reader.specs.Readings.{begins_at, expect as expected, end_line, end_text, digits_value, number_here, number_if as numbers_if, number_in as numbers_in, line_of};
+ghost use Rattle.reader.specs.Readers.{text_of, from, Answers, Computes, SameText};
 
 use crate::{ByteKind, Reader, line_end_length};
 use fault::{Fault, Layer, Refusal};
@@ -14,16 +13,11 @@ use fault::{Fault, Layer, Refusal};
 // The longest number that the texts hold has eight digits.
 const MOST_DIGITS: usize = 8;
 
-// How many bytes of one kind stand at `place` in a row.
-fn run_length(text: &[u8], place: usize, kind: ByteKind) -> usize
-    ensures value { result ≡ prefix_len (of_kind kind) (drop place text.now) }
-    ensures bound { place ≤ length text.now → place + result ≤ length text.now }
+// How many bytes of one kind stand at the front.
+fn run_length(bytes: &[u8], kind: ByteKind) -> usize
+    ensures { result ≡ length (run kind bytes.now) }
 {
-    let mut end = place;
-    while end < text.len() && kind.holds(text[end]) {
-        end += 1;
-    }
-    end - place
+    bytes.iter().take_while(|byte| kind.holds(**byte)).count()
 }
 
 // The number that at most eight digits write.
@@ -37,15 +31,6 @@ fn value_of(digits: &[u8]) -> u32
         value = value * 10 + u32::from(*digit - b'0');
     }
     value
-}
-
-// Whether `word` stands at `place`.
-fn begins(text: &[u8], place: usize, word: &[u8]) -> bool
-    requires { place ≤ length text.now }
-    ensures value { result ≡ begins_at text.now place word.now }
-    ensures bound { result ≡ true → place + length word.now ≤ length text.now }
-{
-    text[place..].starts_with(word)
 }
 
 impl<'a> Reader<'a> {
@@ -73,6 +58,13 @@ impl<'a> Reader<'a> {
         }
     }
 
+    // What is left of the text.
+    fn rest(&self) -> &'a [u8]
+        ensures value { result.now ≡ drop self.now.place (text_of self.now) }
+    {
+        &self.text[self.place..]
+    }
+
     // Whether the text ends here.
     pub fn at_end(&self) -> bool
         ensures value { result ≡ (self.now.place == (length (text_of self.now))) }
@@ -91,7 +83,7 @@ impl<'a> Reader<'a> {
     pub fn stands(&self, word: &[u8]) -> bool
         ensures value { result ≡ begins_at (text_of self.now) self.now.place word.now }
     {
-        begins(self.text, self.place, word)
+        self.rest().starts_with(word)
     }
 
     // Moves past `word` where it stands here, and tells whether it does.
@@ -100,7 +92,7 @@ impl<'a> Reader<'a> {
         ensures after { self.new.place ≡ (if result then self.old.place + length word.now else self.old.place) }
         ensures same { SameText self.old self.new }
     {
-        if !begins(self.text, self.place, word) {
+        if !self.stands(word) {
             return false;
         }
         self.place += word.len();
@@ -148,8 +140,8 @@ impl<'a> Reader<'a> {
         ensures value { result.now ≡ run kind (drop self.now.place (text_of self.now)) }
         ensures bound { self.now.place + length result.now ≤ length (text_of self.now) }
     {
-        let end = self.place + run_length(self.text, self.place, kind);
-        &self.text[self.place..end]
+        let rest = self.rest();
+        &rest[..run_length(rest, kind)]
     }
 
     // Moves past the longest run of bytes of one kind that stands here, and hands it out as a part of the text.
@@ -175,17 +167,31 @@ impl<'a> Reader<'a> {
         Ok(value_of(digits))
     }
 
+    // Moves past a number that passes a test; another number is refused with `refusal`.
+    pub fn number_if<F: FnOnce(u32) -> bool>(
+        &mut self,
+        allowed: F,
+        refusal: Refusal,
+    ) -> Result<u32, Fault>
+        requires { F.IsAlwaysCallable allowed }
+        ensures value { (test : ℕ → Bool) → Computes (F.post allowed) test → Answers (from (numbers_if test refusal) self.old) result self.new.place }
+        ensures passed { IfOk result (λ number. F.post allowed number true) }
+        ensures same { SameText self.old self.new }
+    {
+        let number = self.number_here()?;
+        if !allowed(number) {
+            return Err(self.fault(refusal));
+        }
+        self.take_run(ByteKind::Digit);
+        Ok(number)
+    }
+
     // Moves past a number from `low` to `high`; another number is refused with `refusal`.
     pub fn number_in(&mut self, low: u32, high: u32, refusal: Refusal) -> Result<u32, Fault>
         ensures value { Answers (from (numbers_in low high refusal) self.old) result self.new.place }
         ensures same { SameText self.old self.new }
     {
-        let number = self.number_here()?;
-        if number < low || number > high {
-            return Err(self.fault(refusal));
-        }
-        self.take_run(ByteKind::Digit);
-        Ok(number)
+        self.number_if(|number| low <= number && number <= high, refusal)
     }
 
     // Moves past a line: a key, a number from `low` to `high` and a line end.

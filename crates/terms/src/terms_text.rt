@@ -10,32 +10,24 @@ ghost use Rattle.reader.specs.Words.{ladder_key, post_key};
 
 use crate::{LadderChoice, PostChoice, Terms};
 use fault::{Failure, Fault, Layer, Refusal};
-use reader::{ByteKind, Reader, words};
+use ladder::{LARGEST_DIVISOR, LARGEST_GRAIN, LARGEST_TOP, MOST_STEPS};
+use offices::OfficeCount;
+use reader::{Reader, words};
 use std::alloc::Global;
-
-const MOST_OFFICES: u32 = 64;
-
-const MOST_GRAIN: u32 = 8388608;
-
-const MOST_STEPS: u32 = 16;
-
-const MOST_DIVISOR: u32 = 16;
-
-const MOST_DIVISORS: usize = 16;
-
-const MOST_TOP: u32 = 16777216;
 
 // The number of steps of a halving ladder over `grain`.
 fn steps(reader: &mut Reader<'_>, grain: u32) -> Result<u32, Fault>
     ensures value { Answers (from_here (number_if (steps_allowed grain) OutOfRange) reader.old) result reader.new.place }
     ensures same { SameText reader.old reader.new }
 {
-    let steps = reader.number_here()?;
-    if steps < 1 || steps > MOST_STEPS || u64::from(grain) << steps > u64::from(MOST_TOP) {
-        return Err(reader.fault(Refusal::OutOfRange));
-    }
-    reader.take_run(ByteKind::Digit);
-    Ok(steps)
+    reader.number_if(
+        |steps| {
+            1 <= steps
+                && steps as usize <= MOST_STEPS
+                && u64::from(grain) << steps <= u64::from(LARGEST_TOP)
+        },
+        Refusal::OutOfRange,
+    )
 }
 
 // The next divisor, where the grain and the divisors before it make `whole`.
@@ -44,15 +36,14 @@ fn divisor(reader: &mut Reader<'_>, whole: u32) -> Result<u32, Fault>
     ensures same { SameText reader.old reader.new }
     ensures bound { IfOk result (λ d. whole * d ≤ 16777216) }
 {
-    let divisor = reader.number_here()?;
-    if divisor < 2
-        || divisor > MOST_DIVISOR
-        || u64::from(whole) * u64::from(divisor) > u64::from(MOST_TOP)
-    {
-        return Err(reader.fault(Refusal::OutOfRange));
-    }
-    reader.take_run(ByteKind::Digit);
-    Ok(divisor)
+    reader.number_if(
+        |divisor| {
+            2 <= divisor
+                && divisor <= LARGEST_DIVISOR
+                && u64::from(whole) * u64::from(divisor) <= u64::from(LARGEST_TOP)
+        },
+        Refusal::OutOfRange,
+    )
 }
 
 // One to sixteen divisors with commas between.
@@ -68,8 +59,8 @@ fn divisors(heap: Global, reader: &mut Reader<'_>, grain: u32) -> Result<Vec<u32
         if !reader.stands(words::COMMA) {
             return Ok(divisors);
         }
-        if divisors.len() == MOST_DIVISORS {
-            return Err(Failure::Faulty(reader.fault(Refusal::OutOfRange)));
+        if divisors.len() == MOST_STEPS {
+            return Err(reader.fault(Refusal::OutOfRange).into());
         }
         reader.skip(words::COMMA);
         whole *= next;
@@ -87,7 +78,7 @@ fn ladder(heap: Global, reader: &mut Reader<'_>, grain: u32) -> Result<LadderCho
     if reader.skip(words::LISTED_WORD) {
         return Ok(LadderChoice::Listed(divisors(heap, reader, grain)?));
     }
-    Err(Failure::Faulty(reader.fault(Refusal::UnknownWord)))
+    Err(reader.fault(Refusal::UnknownWord).into())
 }
 
 // The post: one of its words.
@@ -128,8 +119,8 @@ fn post_line(reader: &mut Reader<'_>) -> Result<PostChoice, Fault>
 fn terms(heap: Global, reader: &mut Reader<'_>) -> Result<Terms, Failure>
     ensures value { GivesAt terms_model (from_here terms_reading reader.old) result reader.new.place }
 {
-    let offices = reader.number_line(words::OFFICES_KEY, 1, MOST_OFFICES)?;
-    let grain = reader.number_line(words::GRAIN_KEY, 1, MOST_GRAIN)?;
+    let offices = reader.number_line(words::OFFICES_KEY, 1, OfficeCount::MOST)?;
+    let grain = reader.number_line(words::GRAIN_KEY, 1, LARGEST_GRAIN)?;
     let ladder = ladder_line(heap, reader, grain)?;
     let post = post_line(reader)?;
     reader.end_text()?;

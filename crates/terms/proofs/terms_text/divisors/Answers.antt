@@ -37,19 +37,19 @@ returns-then-not-stands c =
       same = same_trans inv.0.same c.divisor.ensures.same;
     }
 
-pub returns-then-len-eq-MOST_DIVISORS : goal.returns-then-len-eq-MOST_DIVISORS
-returns-then-len-eq-MOST_DIVISORS c =
+pub returns-then-len-eq-MOST_STEPS : goal.returns-then-len-eq-MOST_STEPS
+returns-then-len-eq-MOST_STEPS c =
     let inv = c.loop-divisors.invariant in
-    let last : vec_len c.loop-divisors.divisors ≡ 15 = omega (arith, c.len.ensures, c.if-len-eq-MOST_DIVISORS.true, c.in_ok-push.ensures.len) in
-    record {
+    let last : vec_len c.loop-divisors.divisors ≡ 15 = omega (arith, c.len.ensures, c.if-len-eq-MOST_STEPS.true, c.in_ok-push.ensures.len) in
+    rw c.into.ensures (record {
       value = (stop_full inv.0 c.divisor.new.reader _ (over c.args.grain (vec_items c.loop-divisors.divisors) inv.2 c.loop-divisors.reader c.in_ok-next.ensures.value) c.divisor.ensures.same last c.if-not-stands.ensures.value c.fault.ensures.value, ap (λ f. f.place) (sym c.fault.ensures.value));
       same = same_trans inv.0.same c.divisor.ensures.same;
-    }
+    })
 
 pub loop-divisors-preserved : goal.loop-divisors-preserved
 loop-divisors-preserved c =
     let inv = c.loop-divisors.invariant in
-    let few : vec_len c.loop-divisors.divisors < 15 = omega (arith, inv.1, c.len.ensures, c.if-len-eq-MOST_DIVISORS.false, c.in_ok-push.ensures.len) in
+    let few : vec_len c.loop-divisors.divisors < 15 = omega (arith, inv.1, c.len.ensures, c.if-len-eq-MOST_STEPS.false, c.in_ok-push.ensures.len) in
     let past : c.skip.new.self.place ≡ c.divisor.new.reader.place + 1 = c.skip.ensures.after ∙ ap (λ b. cond b (c.divisor.new.reader.place + 1) c.divisor.new.reader.place) (c.skip.ensures.value ∙ sym c.if-not-stands.ensures.value) in (
       go_on inv.0 c.divisor.new.reader _ (over c.args.grain (vec_items c.loop-divisors.divisors) inv.2 c.loop-divisors.reader c.in_ok-next.ensures.value) c.divisor.ensures.same c.skip.new.self few c.if-not-stands.ensures.value c.skip.ensures.same past c.in_ok-push.ensures.items c.in_ok-push.ensures.len,
       omega (arith, few, c.in_ok-push.ensures.len),
