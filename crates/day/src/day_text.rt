@@ -24,16 +24,6 @@ fn marks<'a>(reader: &mut Reader<'a>) -> Result<&'a [u8], Fault>
     Ok(marks)
 }
 
-fn marks_line<'a>(reader: &mut Reader<'a>) -> Result<&'a [u8], Fault>
-    ensures value { MarksAt (from_here (line_of marks_key marks_text) reader.old) result reader.new.place }
-    ensures same { SameText reader.old reader.new }
-{
-    reader.expect(words::MARKS_KEY)?;
-    let marks = marks(reader)?;
-    reader.end_line()?;
-    Ok(marks)
-}
-
 // One office or more with commas between.
 fn some_lots(heap: Global, reader: &mut Reader<'_>, offices: u32) -> Result<Vec<u32>, Failure>
     ensures value { GivesAt vec_items (from_here (some_lots offices) reader.old) result reader.new.place }
@@ -60,22 +50,12 @@ fn lots(heap: Global, reader: &mut Reader<'_>, offices: u32) -> Result<Vec<u32>,
     some_lots(heap, reader, offices)
 }
 
-fn lots_line(heap: Global, reader: &mut Reader<'_>, offices: u32) -> Result<Vec<u32>, Failure>
-    ensures value { GivesAt vec_items (from_here (line_of lots_key (lots_text offices)) reader.old) result reader.new.place }
-    ensures same { SameText reader.old reader.new }
-{
-    reader.expect(words::LOTS_KEY)?;
-    let lots = lots(heap, reader, offices)?;
-    reader.end_line()?;
-    Ok(lots)
-}
-
 // The two lines of a day, with nothing after them.
 fn day<'a>(heap: Global, reader: &mut Reader<'a>, offices: u32) -> Result<Day<'a>, Failure>
     ensures value { GivesAt day_model (from_here (day_reading offices) reader.old) result reader.new.place }
 {
-    let marks = marks_line(reader)?;
-    let lots = lots_line(heap, reader, offices)?;
+    let marks = reader.line(words::MARKS_KEY, marks)?;
+    let lots = reader.line(words::LOTS_KEY, |reader| lots(heap, reader, offices))?;
     reader.end_text()?;
     Ok(Day { marks, lots })
 }

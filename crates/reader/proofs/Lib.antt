@@ -4,3 +4,4 @@ pub mod Same
 pub mod Numbers
 pub mod ExactLists
 pub mod Given
+pub mod Lines

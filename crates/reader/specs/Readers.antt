@@ -1,5 +1,5 @@
 -- What a call on a reader does: the answer of a reading, and where the reader stands after it. Assumes nothing.
-use Rattle.std.specs.Prelude.{◌≡◌, ℕ, ◌^◌, ◌<◌, Bool, List, Ok, Err, Result}
+use Rattle.std.specs.Prelude.{◌≡◌, ℕ, ◌^◌, ◌<◌, Bool, List, Some, None, Ok, Err, Option, Result}
 use Rattle.fault.specs.declared.Fault.{Fault}
 use Rattle.reader.specs.declared.Reader.{Reader}
 use Rattle.reader.specs.Readings.{Reading}
@@ -12,10 +12,19 @@ text_of r = r.text.now
 abbrev pub from : {X : Type 0} → Reading X → Reader → Result (X × ℕ) Fault
 from reading r = reading r.layer (text_of r) r.place
 
--- r is the answer of s, and q is the place after what was read, or the fault's place
+-- s stops with the fault that an error tells of, and q is the fault's place; an error that tells of none says nothing of s
+abbrev pub Stops : {Y : Type 0} → Option Fault → Result (Y × ℕ) Fault → ℕ → Type 0
+Stops (Some f) s q = (s ≡ Err f) × (q ≡ f.place)
+Stops None s q = Unit {0}
+
+-- r stands, by model and by what its errors tell, for the answer of s, and q is the place after what was read, or the fault's place
+abbrev pub ReadsAt : {X Y E : Type 0} → (E → Option Fault) → (X → Y) → Result (Y × ℕ) Fault → Result X E → ℕ → Type 0
+ReadsAt told model s (Ok x) q = s ≡ Ok (model x, q)
+ReadsAt told model s (Err e) q = Stops (told e) s q
+
+-- r is itself the answer of s
 abbrev pub Answers : {X : Type 0} → Result (X × ℕ) Fault → Result X Fault → ℕ → Type 0
-Answers s (Ok x) q = s ≡ Ok (x, q)
-Answers s (Err f) q = (s ≡ Err f) × (q ≡ f.place)
+Answers = ReadsAt (λ f. Some f) (λ x. x)
 
 -- whatever a call may answer at a number is what test gives there
 abbrev pub Computes : (ℕ → Bool → Type 0) → (ℕ → Bool) → Type 0

@@ -7,9 +7,5 @@ pub fn line_end_length(text: &[u8], place: usize) -> usize
     ensures value { result ≡ line_end (drop place text.now) }
     ensures bound { place ≤ length text.now → place + result ≤ length text.now }
 {
-    if text.get(place) == Some(&b'\n') {
-        1
-    } else {
-        0
-    }
+    usize::from(text.get(place) == Some(&b'\n'))
 }

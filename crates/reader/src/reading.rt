@@ -1,5 +1,7 @@
 // The reader's calls. Each ends past what it accepted, or, at a fault, at the fault's place.
 ghost use Rattle.std.specs.Prelude.{◌≡◌, IfOk, ℕ, Bool, ◌+◌, ◌<◌, ◌≤◌, true, length, drop, if◌then◌else◌, ◌==◌, nat_lt};
+ghost use Rattle.std.specs.Fn.{FnOnceReturnsAtMut};
+ghost use Rattle.reader.specs.Lines.{LineBy};
 ghost use Rattle.std.specs.Str.{all_ascii_digits};
 ghost use Rattle.fault.specs.Faults.{fault as fault_at};
 ghost use Rattle.fault.specs.declared.Refusal.TheVariants.{OutOfRange};
@@ -191,7 +193,22 @@ impl<'a> Reader<'a> {
         ensures value { Answers (from (numbers_in low high refusal) self.old) result self.new.place }
         ensures same { SameText self.old self.new }
     {
-        self.number_if(|number| low <= number && number <= high, refusal)
+        self.number_if(|number| (low..=high).contains(&number), refusal)
+    }
+
+    // Moves past a line: a key, what `body` reads, and a line end.
+    pub fn line<T: Drop, E: From<Fault>, F: FnOnce(&mut Reader<'a>) -> Result<T, E>>(
+        &mut self,
+        key: &[u8],
+        body: F,
+    ) -> Result<T, E>
+        requires { F.IsAlwaysCallable body }
+        ensures { LineBy E.from_gives (FnOnceReturnsAtMut F.FnOnce body) key.now self.old result self.new }
+    {
+        self.expect(key)?;
+        let value = body(self)?;
+        self.end_line()?;
+        Ok(value)
     }
 
     // Moves past a line: a key, a number from `low` to `high` and a line end.
@@ -199,9 +216,6 @@ impl<'a> Reader<'a> {
         ensures value { Answers (from (line_of key.now (numbers_in low high OutOfRange)) self.old) result self.new.place }
         ensures same { SameText self.old self.new }
     {
-        self.expect(key)?;
-        let number = self.number_in(low, high, Refusal::OutOfRange)?;
-        self.end_line()?;
-        Ok(number)
+        self.line(key, |reader| reader.number_in(low, high, Refusal::OutOfRange))
     }
 }

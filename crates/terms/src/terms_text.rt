@@ -95,34 +95,14 @@ fn post(reader: &mut Reader<'_>) -> Result<PostChoice, Fault>
     }
 }
 
-fn ladder_line(heap: Global, reader: &mut Reader<'_>, grain: u32) -> Result<LadderChoice, Failure>
-    ensures value { GivesAt ladder_model (from_here (line_of ladder_key (ladder_text grain)) reader.old) result reader.new.place }
-    ensures same { SameText reader.old reader.new }
-{
-    reader.expect(words::LADDER_KEY)?;
-    let choice = ladder(heap, reader, grain)?;
-    reader.end_line()?;
-    Ok(choice)
-}
-
-fn post_line(reader: &mut Reader<'_>) -> Result<PostChoice, Fault>
-    ensures value { Answers (from_here (line_of post_key post_text) reader.old) result reader.new.place }
-    ensures same { SameText reader.old reader.new }
-{
-    reader.expect(words::POST_KEY)?;
-    let choice = post(reader)?;
-    reader.end_line()?;
-    Ok(choice)
-}
-
 // The four lines of the terms, with nothing after them.
 fn terms(heap: Global, reader: &mut Reader<'_>) -> Result<Terms, Failure>
     ensures value { GivesAt terms_model (from_here terms_reading reader.old) result reader.new.place }
 {
     let offices = reader.number_line(words::OFFICES_KEY, 1, OfficeCount::MOST)?;
     let grain = reader.number_line(words::GRAIN_KEY, 1, LARGEST_GRAIN)?;
-    let ladder = ladder_line(heap, reader, grain)?;
-    let post = post_line(reader)?;
+    let ladder = reader.line(words::LADDER_KEY, |reader| ladder(heap, reader, grain))?;
+    let post = reader.line(words::POST_KEY, post)?;
     reader.end_text()?;
     Ok(Terms {
         offices,
