@@ -1,11 +1,9 @@
 // The text of a day.
-ghost use Rattle.std.specs.Prelude.{◌≡◌, ℕ, ◌≤◌, length, vec_items};
-ghost use Rattle.reader.specs.Readings.{line_of};
+ghost use Rattle.std.specs.Prelude.{vec_items};
 ghost use Rattle.reader.specs.Readers.{from as from_here, SameText};
 ghost use Rattle.reader.specs.Answers.{Gives, GivesAt, MarksAt};
 ghost use Rattle.day.specs.DayText.{marks as marks_text, some_lots, lots as lots_text, day as day_reading, read_day};
 ghost use Rattle.day.specs.Models.{day_model};
-ghost use Rattle.reader.specs.Words.{marks_key, lots_key};
 
 use crate::Day;
 use fault::{Failure, Fault, Layer, Refusal};
@@ -24,6 +22,7 @@ fn marks<'a>(reader: &mut Reader<'a>) -> Result<&'a [u8], Fault>
     Ok(marks)
 }
 
+// Kept: a loop beside that of the divisors, since it has no limit and tests each office alone.
 // One office or more with commas between.
 fn some_lots(heap: Global, reader: &mut Reader<'_>, offices: u32) -> Result<Vec<u32>, Failure>
     ensures value { GivesAt vec_items (from_here (some_lots offices) reader.old) result reader.new.place }

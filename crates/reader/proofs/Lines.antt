@@ -4,7 +4,7 @@ use Rattle.fault.specs.declared.Fault.{Fault}
 use Rattle.fault.specs.declared.failure.Failure.{Failure}
 use Rattle.fault.specs.declared.failure.Failure.TheVariants.{Faulty}
 use Rattle.reader.specs.declared.Reader.{Reader}
-use Rattle.reader.specs.Readings.{Reading, expect, end_line, line_of}
+use Rattle.reader.specs.Readings.{Reading, end_line, line_of}
 use Rattle.reader.specs.Readers.{from, Stops, ReadsAt, SameText}
 use Rattle.reader.specs.Answers.{told, GivesAt}
 use Rattle.reader.specs.Lines.{LineBy, no_key, stopped, no_end, read}

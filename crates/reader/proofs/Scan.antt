@@ -1,14 +1,11 @@
 -- Runs of bytes, the number that digits write, and words at a place, a step at a time.
-use Rattle.std.proofs.Common.{◌≡◌, ℕ, suc, ◌+◌, ◌-◌, ◌*◌, ◌<◌, ◌≤◌, Bool, true, false, cond, List, [], ◌∷◌, length, get_or, take, drop, Decides, sym, refl, ap, ◌∙◌, arith, rules}
+use Rattle.std.proofs.Common.{◌≡◌, ℕ, suc, ◌+◌, ◌-◌, ◌*◌, ◌<◌, ◌≤◌, Bool, true, false, cond, List, [], ◌∷◌, length, get_or, take, drop, sym, refl, ◌∙◌, arith, rules}
 use Rattle.std.specs.Char.{is_ascii_digit}
-use Rattle.std.specs.Int.{IsInRange}
 use Rattle.std.specs.List.{prefix_len}
-use Rattle.std.specs.Str.{all_ascii_digits, bytes_eq}
-use Rattle.std.proofs.lemmas.Slice.Eq.{bytes_eq-Decides}
-use Rattle.std.proofs.lemmas.List.{at_drop_more, take_rest}
+use Rattle.std.specs.Str.{all_ascii_digits}
+use Rattle.std.proofs.lemmas.List.{at_drop_more}
 use Rattle.std.proofs.lemmas.Str.Parse.{IsNumeralModel, numerals_by_fold, digit_at, digits_value_short}
 use Rattle.std.proofs.lemmas.Bool.{and_from}
-use Rattle.std.proofs.lemmas.Bool.Decides.{same_from_decides}
 use Rattle.reader.specs.declared.byte_kind.ByteKind.TheVariants.{Digit}
 use Rattle.reader.specs.Bytes.{run}
 use Rattle.reader.specs.Readings.{digits_value}
@@ -30,23 +27,11 @@ value_ge : (n : ℕ) (ds : List ℕ) → n ≤ digits_value n ds
 value_ge n [] = omega arith
 value_ge n (c ∷ cs) = omega (arith, value_ge (10 * n + (c - 48)) cs)
 
--- one turn of the sum: what is read so far stays below a hundred million
-pub record Turn (ds : List ℕ) (i n : ℕ) : Type 0 where
-  pub digit : IsInRange 48 57 (get_or ds i 0)
-  pub next : digits_value (n * 10 + (get_or ds i 0 - 48)) (drop (i + 1) ds) ≡ digits_value 0 ds
-  pub small : n * 10 + (get_or ds i 0 - 48) < 100000000
+-- at each digit of at most eight: its byte, and what is read with it stays below a hundred million
+pub digit_low : (ds : List ℕ) (i : ℕ) → all_ascii_digits ds ≡ true → i < length ds → 48 ≤ get_or ds i 0
+digit_low ds i all lt = (digit_at ds i (own.to ds all) lt).0
 
-pub turn : (ds : List ℕ) (i n : ℕ) → all_ascii_digits ds ≡ true → length ds ≤ 8 → i < length ds → digits_value n (drop i ds) ≡ digits_value 0 ds → Turn ds i n
-turn ds i n all few lt inv =
+pub value_small : (ds : List ℕ) (i n : ℕ) → all_ascii_digits ds ≡ true → length ds ≤ 8 → i < length ds → digits_value n (drop i ds) ≡ digits_value 0 ds → n * 10 + (get_or ds i 0 - 48) < 100000000
+value_small ds i n all few lt inv =
     let here : digits_value n (drop i ds) ≡ digits_value (10 * n + (get_or ds i 0 - 48)) (drop (i + 1) ds) = at_drop_more (digits_value n) ds i 0 lt in
-    let same : 10 * n + (get_or ds i 0 - 48) ≡ n * 10 + (get_or ds i 0 - 48) = omega arith in
-    let on : digits_value (n * 10 + (get_or ds i 0 - 48)) (drop (i + 1) ds) ≡ digits_value 0 ds = ap (λ m. digits_value m (drop (i + 1) ds)) (sym same) ∙ sym here ∙ inv in
-    record {
-      digit = digit_at ds i (own.to ds all) lt;
-      next = on;
-      small = omega (arith, on, value_ge (n * 10 + (get_or ds i 0 - 48)) (drop (i + 1) ds), digits_value_short own ds 8 all few);
-    }
-
--- what the test of a word at a place answers
-pub word_test : (t word : List ℕ) (p : ℕ) (r : Bool) → Decides r (word ≡ take (length word) (take (length t - p) (drop p t))) → r ≡ bytes_eq word (take (length word) (drop p t))
-word_test t word p r d = same_from_decides _ _ (rw take_rest at d) (bytes_eq-Decides _ _)
+    omega (arith, sym here ∙ inv, value_ge (10 * n + (get_or ds i 0 - 48)) (drop (i + 1) ds), digits_value_short own ds 8 all few)

@@ -2,6 +2,7 @@
 ghost use Rattle.std.specs.Prelude.{◌≡◌};
 ghost use Rattle.reader.specs.Bytes.{of_kind};
 
+// Kept: an enum, since a contract names a run by its kind, and a closure has no name there.
 #[derive(Clone, Copy)]
 pub enum ByteKind {
     // `0` to `9`.
@@ -17,7 +18,7 @@ impl ByteKind {
     {
         match self {
             ByteKind::Digit => byte.is_ascii_digit(),
-            ByteKind::Mark => byte == b'.' || byte == b'-' || byte == b'+',
+            ByteKind::Mark => matches!(byte, b'.' | b'-' | b'+'),
         }
     }
 }

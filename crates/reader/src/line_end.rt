@@ -1,7 +1,8 @@
 // What a line end is: nothing else in the code knows it.
-ghost use Rattle.std.specs.Prelude.{◌≡◌, ◌+◌, ◌<◌, ◌≤◌, true, length, drop, if◌then◌else◌};
+ghost use Rattle.std.specs.Prelude.{◌≡◌, ◌+◌, ◌≤◌, length, drop};
 ghost use Rattle.reader.specs.Bytes.{line_end};
 
+// Kept: a text and a place, since the line of a fault is sought at places where no reader stands.
 // How many bytes the line end at `place` has: one, a byte 10, or 0 where none stands there.
 pub fn line_end_length(text: &[u8], place: usize) -> usize
     ensures value { result ≡ line_end (drop place text.now) }

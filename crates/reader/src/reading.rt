@@ -1,11 +1,11 @@
 // The reader's calls. Each ends past what it accepted, or, at a fault, at the fault's place.
-ghost use Rattle.std.specs.Prelude.{◌≡◌, IfOk, ℕ, Bool, ◌+◌, ◌<◌, ◌≤◌, true, length, drop, if◌then◌else◌, ◌==◌, nat_lt};
+ghost use Rattle.std.specs.Prelude.{◌≡◌, IfOk, ℕ, Bool, ◌+◌, ◌≤◌, true, length, drop, if◌then◌else◌, ◌==◌, nat_lt};
 ghost use Rattle.std.specs.Fn.{FnOnceReturnsAtMut};
 ghost use Rattle.reader.specs.Lines.{LineBy};
 ghost use Rattle.std.specs.Str.{all_ascii_digits};
 ghost use Rattle.fault.specs.Faults.{fault as fault_at};
 ghost use Rattle.fault.specs.declared.Refusal.TheVariants.{OutOfRange};
-ghost use Rattle.reader.specs.Bytes.{of_kind, run, line_end};
+ghost use Rattle.reader.specs.Bytes.{run, line_end};
 ghost use Rattle.reader.specs.Readings.{begins_at, expect as expected, end_line, end_text, digits_value, number_here, number_if as numbers_if, number_in as numbers_in, line_of};
 ghost use Rattle.reader.specs.Readers.{text_of, from, Answers, Computes, SameText};
 
@@ -22,7 +22,9 @@ fn run_length(bytes: &[u8], kind: ByteKind) -> usize
     bytes.iter().take_while(|byte| kind.holds(**byte)).count()
 }
 
+// Kept: a `for`, since a fold's closure has no bound on the value so far; tried, and what `fold` asks of it stayed open.
 // The number that at most eight digits write.
+#[tactic(auto, using(crate::proofs::Scan::digit_low, crate::proofs::Scan::value_small))]
 fn value_of(digits: &[u8]) -> u32
     requires digits { all_ascii_digits digits.now ≡ true }
     requires few { length digits.now ≤ 8 }
@@ -158,6 +160,7 @@ impl<'a> Reader<'a> {
     }
 
     // The number that stands here: one to eight digits, with no zero before another. The reader stays.
+    #[tactic(auto, using(crate::proofs::Scan::all_digits))]
     pub fn number_here(&self) -> Result<u32, Fault>
         ensures value { result ≡ number_here self.now.layer (text_of self.now) self.now.place }
     {
@@ -216,6 +219,9 @@ impl<'a> Reader<'a> {
         ensures value { Answers (from (line_of key.now (numbers_in low high OutOfRange)) self.old) result self.new.place }
         ensures same { SameText self.old self.new }
     {
-        self.line(key, |reader| reader.number_in(low, high, Refusal::OutOfRange))
+        self.line(
+            key,
+            |reader| reader.number_in(low, high, Refusal::OutOfRange),
+        )
     }
 }

@@ -1,4 +1,5 @@
 // The keys, words and separators of the texts. The same constants are read and written.
+// Kept: constants, since an enum of the keys would say each text in a match beside its name.
 pub const OFFICES_KEY: &[u8] = b"offices=";
 
 pub const GRAIN_KEY: &[u8] = b"grain=";

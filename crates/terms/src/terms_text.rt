@@ -1,12 +1,11 @@
 // The text of the terms.
-ghost use Rattle.std.specs.Prelude.{◌≡◌, ℕ, ◌+◌, ◌*◌, ◌<◌, ◌≤◌, [], length, IfOk, vec_items};
+ghost use Rattle.std.specs.Prelude.{◌*◌, ◌≤◌, IfOk, vec_items};
 ghost use Rattle.fault.specs.declared.Refusal.TheVariants.{OutOfRange};
-ghost use Rattle.reader.specs.Readings.{number_if, line_of};
+ghost use Rattle.reader.specs.Readings.{number_if};
 ghost use Rattle.reader.specs.Readers.{from as from_here, Answers, SameText};
 ghost use Rattle.reader.specs.Answers.{Gives, GivesAt};
 ghost use Rattle.terms.specs.Models.{ladder_model, terms_model};
 ghost use Rattle.terms.specs.TermsText.{steps_allowed, divisor_allowed, divisors as divisors_text, ladder as ladder_text, post as post_text, terms as terms_reading, read_terms};
-ghost use Rattle.reader.specs.Words.{ladder_key, post_key};
 
 use crate::{LadderChoice, PostChoice, Terms};
 use fault::{Failure, Fault, Layer, Refusal};
@@ -46,6 +45,7 @@ fn divisor(reader: &mut Reader<'_>, whole: u32) -> Result<u32, Fault>
     )
 }
 
+// Kept: a loop beside that of the lots, since each divisor is tested with the product of those before it.
 // One to sixteen divisors with commas between.
 fn divisors(heap: Global, reader: &mut Reader<'_>, grain: u32) -> Result<Vec<u32>, Failure>
     ensures value { GivesAt vec_items (from_here (divisors_text grain) reader.old) result reader.new.place }
@@ -67,6 +67,7 @@ fn divisors(heap: Global, reader: &mut Reader<'_>, grain: u32) -> Result<Vec<u32
     }
 }
 
+// Kept: memory, reader and grain as parameters, since this call and the one above alone take all three.
 // The ladder: one of its words, and its numbers.
 fn ladder(heap: Global, reader: &mut Reader<'_>, grain: u32) -> Result<LadderChoice, Failure>
     ensures value { GivesAt ladder_model (from_here (ladder_text grain) reader.old) result reader.new.place }

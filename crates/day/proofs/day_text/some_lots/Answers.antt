@@ -7,19 +7,14 @@ use Rattle.reader.proofs.Same.{same_trans}
 use Rattle.reader.proofs.Numbers.{stop_err, stop_done, go_on}
 use Rattle.day.proofs.day_text.some_lots.Goals as goal
 
-pub returns-in_err-office : goal.returns-in_err-office
-returns-in_err-office c =
+pub returns-in_err-office-clause-value : goal.returns-in_err-office-clause-value
+returns-in_err-office-clause-value c =
     let p = err_from_is_err_and c.from_residual.result c.from_residual.ensures.1 in
-    rw (p.1, p.2) (record {
-      value = (stop_err c.loop-lots.invariant.0 _ c.in_err-office.ensures.value.0, c.in_err-office.ensures.value.1);
-      same = same_trans c.loop-lots.invariant.0.same c.number_in.ensures.same;
-    })
+    rw (p.1, p.2) (stop_err c.loop-lots.invariant.0 _ c.in_err-office.ensures.value.0, c.in_err-office.ensures.value.1)
 
-pub returns-then-not-skip : goal.returns-then-not-skip
-returns-then-not-skip c = record {
-  value = stop_done c.loop-lots.invariant.0 c.number_in.new.self _ c.in_ok-office.ensures.value c.number_in.ensures.same c.if-not-skip.ensures.value c.in_ok-push.ensures.items c.if-not-skip.ensures.after;
-  same = same_trans c.loop-lots.invariant.0.same (same_trans c.number_in.ensures.same c.skip.ensures.same);
-}
+pub returns-then-not-skip-clause-value : goal.returns-then-not-skip-clause-value
+returns-then-not-skip-clause-value c =
+    stop_done c.loop-lots.invariant.0 c.number_in.new.self _ c.in_ok-office.ensures.value c.number_in.ensures.same c.if-not-skip.ensures.value c.in_ok-push.ensures.items c.if-not-skip.ensures.after
 
 -- a number was read within the text, after at least as many bytes as there are lots
 pub loop-lots-preserved : goal.loop-lots-preserved

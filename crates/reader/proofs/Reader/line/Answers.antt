@@ -17,13 +17,13 @@ pub returns-in_err-end_line : goal.returns-in_err-end_line
 returns-in_err-end_line g c =
     let p = err_from_is_err_and c.from_residual-in_err-end_line.result c.from_residual-in_err-end_line.ensures.1 in
     rw p.1 (
-      no_end (record { same = c.expect.ensures.same; read = c.in_ok-expect.ensures.value })
-          (record { shown = _; shows = refl; left = _; met = c.in_ok-value.ensures; leaves = refl })
-          (record { fault = c.in_err-end_line.field-0.0; refused = c.in_err-end_line.ensures.value.0; given = p.2; same = c.in_err-end_line.ensures.same; place = c.in_err-end_line.ensures.value.1 })
+    no_end (record { same = c.expect.ensures.same; read = c.in_ok-expect.ensures.value })
+    (record { shown = _; shows = refl; left = _; met = c.in_ok-value.ensures; leaves = refl })
+    (record { fault = c.in_err-end_line.field-0.0; refused = c.in_err-end_line.ensures.value.0; given = p.2; same = c.in_err-end_line.ensures.same; place = c.in_err-end_line.ensures.value.1 })
     )
 
 pub returns : goal.returns
 returns g c =
     read (record { same = c.expect.ensures.same; read = c.in_ok-expect.ensures.value })
-        (record { shown = _; shows = refl; left = _; met = c.in_ok-value.ensures; leaves = refl })
-        (record { same = c.end_line.ensures.same; read = c.in_ok-end_line.ensures.value })
+    (record { shown = _; shows = refl; left = _; met = c.in_ok-value.ensures; leaves = refl })
+    (record { same = c.end_line.ensures.same; read = c.in_ok-end_line.ensures.value })

@@ -6,7 +6,6 @@ use Rattle.reader.specs.declared.Reader.{Reader}
 use Rattle.ladder.specs.Slacks.{product}
 use Rattle.reader.specs.Readings.{number_if}
 use Rattle.reader.specs.Readers.{from}
-use Rattle.reader.proofs.Same.{same_trans}
 use Rattle.terms.specs.TermsText.{divisor_allowed}
 use Rattle.reader.proofs.Numbers.{stop_err, stop_done, stop_full, go_on}
 use Rattle.terms.proofs.Products.{product_push}
@@ -20,31 +19,22 @@ module _ (g : ℕ) {w : ℕ} (held : List ℕ) (is : w ≡ g * product held) (he
   whole-more : {all : List ℕ} (d : ℕ) → all ≡ held ++ d ∷ [] → w * d ≡ g * product all
   whole-more d e = ap (λ n. n * d) is ∙ mul_assoc g (product held) d ∙ ap (λ n. g * n) (sym (product_push held d)) ∙ ap (λ ds. g * product ds) (sym e)
 
-pub returns-in_err-next : goal.returns-in_err-next
-returns-in_err-next c =
+pub returns-in_err-next-clause-value : goal.returns-in_err-next-clause-value
+returns-in_err-next-clause-value c =
     let p = err_from_is_err_and c.from_residual.result c.from_residual.ensures.1 in
     let inv = c.loop-divisors.invariant in
-    rw (p.1, p.2) (record {
-      value = (stop_err inv.0 _ (over c.args.grain (vec_items c.loop-divisors.divisors) inv.2 c.loop-divisors.reader c.in_err-next.ensures.value.0), c.in_err-next.ensures.value.1);
-      same = same_trans inv.0.same c.divisor.ensures.same;
-    })
+    rw (p.1, p.2) (stop_err inv.0 _ (over c.args.grain (vec_items c.loop-divisors.divisors) inv.2 c.loop-divisors.reader c.in_err-next.ensures.value.0), c.in_err-next.ensures.value.1)
 
-pub returns-then-not-stands : goal.returns-then-not-stands
-returns-then-not-stands c =
+pub returns-then-not-stands-clause-value : goal.returns-then-not-stands-clause-value
+returns-then-not-stands-clause-value c =
     let inv = c.loop-divisors.invariant in
-    record {
-      value = stop_done inv.0 c.divisor.new.reader _ (over c.args.grain (vec_items c.loop-divisors.divisors) inv.2 c.loop-divisors.reader c.in_ok-next.ensures.value) c.divisor.ensures.same c.if-not-stands.ensures.value c.in_ok-push.ensures.items refl;
-      same = same_trans inv.0.same c.divisor.ensures.same;
-    }
+    stop_done inv.0 c.divisor.new.reader _ (over c.args.grain (vec_items c.loop-divisors.divisors) inv.2 c.loop-divisors.reader c.in_ok-next.ensures.value) c.divisor.ensures.same c.if-not-stands.ensures.value c.in_ok-push.ensures.items refl
 
-pub returns-then-len-eq-MOST_STEPS : goal.returns-then-len-eq-MOST_STEPS
-returns-then-len-eq-MOST_STEPS c =
+pub returns-then-len-eq-MOST_STEPS-clause-value : goal.returns-then-len-eq-MOST_STEPS-clause-value
+returns-then-len-eq-MOST_STEPS-clause-value c =
     let inv = c.loop-divisors.invariant in
     let last : vec_len c.loop-divisors.divisors ≡ 15 = omega (arith, c.len.ensures, c.if-len-eq-MOST_STEPS.true, c.in_ok-push.ensures.len) in
-    rw c.into.ensures (record {
-      value = (stop_full inv.0 c.divisor.new.reader _ (over c.args.grain (vec_items c.loop-divisors.divisors) inv.2 c.loop-divisors.reader c.in_ok-next.ensures.value) c.divisor.ensures.same last c.if-not-stands.ensures.value c.fault.ensures.value, ap (λ f. f.place) (sym c.fault.ensures.value));
-      same = same_trans inv.0.same c.divisor.ensures.same;
-    })
+    rw c.into.ensures (stop_full inv.0 c.divisor.new.reader _ (over c.args.grain (vec_items c.loop-divisors.divisors) inv.2 c.loop-divisors.reader c.in_ok-next.ensures.value) c.divisor.ensures.same last c.if-not-stands.ensures.value c.fault.ensures.value, ap (λ f. f.place) (sym c.fault.ensures.value))
 
 pub loop-divisors-preserved : goal.loop-divisors-preserved
 loop-divisors-preserved c =
