@@ -1,30 +1,27 @@
 -- The steps of the window's parts. Assumes nothing.
-use Rattle.std.proofs.Common.{◌≡◌, ℕ, ◌+◌, ◌*◌, ◌<◌, Bool, true, false, cond, leb, List, [], ◌∷◌, length, set, Some, None, Ok, Err, Option, Result, sym, refl, ap, ◌∙◌, subst, arith}
-use Rattle.std.proofs.lemmas.List.{length-set, get_or-set_same, get_or-set_other}
+use Rattle.std.proofs.Common.{◌≡◌, ℕ, ◌+◌, ◌<◌, Bool, true, false, cond, leb, List, [], ◌∷◌, length, set, Some, None, Ok, Err, Option, Result, sym, refl, ap, ◌∙◌, subst, arith}
+use Rattle.std.proofs.lemmas.List.{length-set, get_or-set_same}
 use Rattle.std.proofs.lemmas.Bool.{leb-false, lt-leb, cond-false}
 use Rattle.fault.specs.declared.Fault.{Fault}
 use Rattle.fault.specs.declared.Refusal.TheVariants.{NoSuchOfficeOrLane}
-use Rattle.post.specs.Lanes.{Lane, lane, no_lane, lane_fault, send, sends, send_answer, joined, take, taken}
+use Rattle.post.specs.Lanes.{Lane, lane, no_lane, lane_fault, take, taken}
 use Rattle.post.specs.Outs.{Out, out}
 use Rattle.window.specs.Sequences.{fine, then}
 use Rattle.window.specs.declared.books.Books.{Books}
 use Rattle.window.specs.declared.books.Message.{Message}
-use Rattle.window.specs.Parts.{Heard, heard, heard_of, message, Followed, followed, followed_of, office}
-use Rattle.window.specs.Turns.{State, at, with_lanes, tell, with_each, drain, replies, hear, signal, answers, follow}
-use Rattle.window.proofs.Steps.{went, broke, each_keeps}
+use Rattle.window.specs.Parts.{Heard, heard, heard_of, message, Followed, followed, followed_of}
+use Rattle.window.specs.Turns.{State, Holds, at, with_lanes, with_each, drain, replies, hear, answers, follow}
+use Rattle.window.proofs.Steps.{went, broke}
 
-pub hear_none : (i byte : ℕ) (b b' : Books) (ls : List Lane) (m : Message) → m ≡ message byte → heard_of b' None ≡ heard i m b → fine (at b' ls) ≡ hear i byte (at b ls)
+-- the coordinator has heard what a byte says, and told what it tells
+pub hear_did : (i byte : ℕ) (b b' : Books) (ls : List Lane) (m : Message) (r : Option ℕ) {o : Out State (Unit {0})} → m ≡ message byte → heard_of b' r ≡ heard i m b → o ≡ replies r b' ls → o ≡ hear i byte (at b ls)
 unfolding hear
-hear_none i byte b b' ls m read e = ap (λ (h : Heard). replies h.reply h.books ls) (e ∙ ap (λ n. heard i n b) read)
+hear_did i byte b b' ls m r read e told = told ∙ ap (λ (h : Heard). replies h.reply h.books ls) (e ∙ ap (λ m. heard i m b) read)
 
-pub hear_some : (i byte : ℕ) (b b' : Books) (ls ls' : List Lane) (m : Message) (r : Result (Unit {0}) Fault) (n : ℕ) → m ≡ message byte → heard_of b' (Some n) ≡ heard i m b → out ls' r ≡ tell b'.setting.offices n ls → out (at b' ls') r ≡ hear i byte (at b ls)
-unfolding hear
-hear_some i byte b b' ls ls' m r n read e followed = ap (with_lanes b') followed ∙ ap (λ (h : Heard). replies h.reply h.books ls) (e ∙ ap (λ n. heard i n b) read)
-
--- a lane still holds what it held
-pub record Holds (j : ℕ) (ls ls' : List Lane) : Type 0 where
-  pub long : length ls' ≡ length ls
-  pub same : (lane ls' j).waiting ≡ (lane ls j).waiting
+-- the office has followed what a byte says, and sent the signals that it owes
+pub follow_did : (i byte : ℕ) (b b' : Books) (ls : List Lane) (m : Message) (n : ℕ) {o : Out State (Unit {0})} → m ≡ message byte → followed_of b' n ≡ followed i m b → o ≡ answers i (followed_of b' n) ls → o ≡ follow i byte (at b ls)
+unfolding follow
+follow_did i byte b b' ls m n read e sent = sent ∙ ap (λ (t : Followed). answers i t ls) (e ∙ ap (λ m. followed i m b) read)
 
 -- what follows a take, in a drain
 pub next : (j : ℕ) (f : ℕ → State → Out State (Unit {0})) → State → Option ℕ → Out State (Unit {0})
@@ -99,44 +96,6 @@ module _ (j : ℕ) (f : ℕ → State → Out State (Unit {0})) (b : Books) (ls 
   pub drain_falls : {x : ℕ} {ls'' : List Lane} → r ≡ Ok (Some x) → Holds j ls' ls'' → length (lane ls'' j).waiting < length (lane ls j).waiting
   drain_falls {x} ok holds = omega (arith, (took j ls ls' x did ok).fewer, ap length holds.same)
 
--- no send on another lane changes what a lane holds
-send_holds : (j i b : ℕ) (ls : List Lane) → (j ≡ i → ⊥) → Holds j ls (send i b ls).state
-send_holds j i b ls other = on (send_answer ls i)
-  where
-    on : (a : Result (Unit {0}) Fault) → Holds j ls (sends a ls (joined ls i b)).state
-    on (Ok u) = record { long = length-set ls i _; same = ap (λ (l : Lane). l.waiting) (get_or-set_other ls i j _ no_lane other) }
-    on (Err f) = record { long = refl; same = refl }
-
-holds_trans : {j : ℕ} {a b c : List Lane} → Holds j a b → Holds j b c → Holds j a c
-holds_trans p q = record { long = q.long ∙ p.long; same = q.same ∙ p.same }
-
-tell_holds : (i k b : ℕ) (ls : List Lane) → Holds (2 * i) ls (tell k b ls).state
-tell_holds i k b ls =
-    each_keeps (Holds (2 * i)) (λ ls. record { long = refl; same = refl }) (λ _ _ _ p q. holds_trans p q) (λ n. send (2 * n + 1) b)
-    (λ n ls. send_holds (2 * i) (2 * n + 1) b ls (λ e. omega arith)) k 0 ls
-
--- what the coordinator does with a byte of office i leaves that office's lane up
-pub hear_holds : (i byte : ℕ) (s : State) {t : State} {r : Result (Unit {0}) Fault} → out t r ≡ hear i byte s → Holds (2 * i) s.lanes t.lanes
-unfolding hear
-hear_holds i byte s e =
-    subst (λ (o : Out State (Unit {0})). Holds (2 * i) s.lanes o.state.lanes) (sym e)
-    (on (heard i (message byte) s.books).reply (heard i (message byte) s.books).books)
-  where
-    on : (o : Option ℕ) (b : Books) → Holds (2 * i) s.lanes (replies o b s.lanes).state.lanes
-    on None b = record { long = refl; same = refl }
-    on (Some m) b = tell_holds i b.setting.offices m s.lanes
-
-pub follow_did : (i byte : ℕ) (b b' : Books) (ls ls' : List Lane) (m : Message) (r : Result (Unit {0}) Fault) (n : ℕ) → m ≡ message byte → followed_of b' n ≡ followed i m b → out ls' r ≡ signal i (office b' i).step n ls → out (at b' ls') r ≡ follow i byte (at b ls)
-unfolding follow
-follow_did i byte b b' ls ls' m r n read e sent = ap (with_lanes b') sent ∙ ap (λ (t : Followed). answers i t ls) (e ∙ ap (λ n. followed i n b) read)
-
-signal_holds : (i step n : ℕ) (ls : List Lane) → Holds (2 * i + 1) ls (signal i step n ls).state
-signal_holds i step n ls =
-    each_keeps (Holds (2 * i + 1)) (λ ls. record { long = refl; same = refl }) (λ _ _ _ p q. holds_trans p q) (λ _. send (2 * i) (32 + step))
-    (λ _ ls. send_holds (2 * i + 1) (2 * i) (32 + step) ls (λ e. omega arith)) n 0 ls
-
-pub follow_holds : (i byte : ℕ) (s : State) {t : State} {r : Result (Unit {0}) Fault} → out t r ≡ follow i byte s → Holds (2 * i + 1) s.lanes t.lanes
-unfolding follow
-follow_holds i byte s e =
-    let t = followed i (message byte) s.books in
-    subst (λ (o : Out State (Unit {0})). Holds (2 * i + 1) s.lanes o.state.lanes) (sym e) (signal_holds i (office t.books i).step t.signals s.lanes)
+-- what holds of what was to be done holds of what was done
+pub holds_after : (j : ℕ) (ls : List Lane) {t : State} {r : Result (Unit {0}) Fault} {o : Out State (Unit {0})} → out t r ≡ o → Holds j ls o.state.lanes → Holds j ls t.lanes
+holds_after j ls e h = subst (λ (o : Out State (Unit {0})). Holds j ls o.state.lanes) (sym e) h

@@ -15,9 +15,8 @@ use Rattle.window.specs.declared.books.OfficeRecord.{OfficeRecord}
 use Rattle.window.specs.declared.books.Message.{Message}
 use Rattle.window.specs.declared.books.Message.TheVariants.{Signal, Start, Close, Other}
 use Rattle.window.specs.Parts.{Heard, heard, heard_of, message, Followed, followed, followed_of, moved, signalled, office, no_office, slack, in_coordinator}
-use Rattle.window.proofs.Steps.{each_keeps}
-use Rattle.window.proofs.Drains.{Holds, hear_holds, follow_holds}
-use Rattle.window.specs.Turns.{State, at, tell, signal, with_each, drain, replies, hear, follow, coordinator_part, office_part, turn, WaitsAt, Busy}
+use Rattle.window.specs.Keeps.{each_keeps, hear_holds, follow_holds}
+use Rattle.window.specs.Turns.{State, Holds, at, tell, signal, with_each, drain, replies, hear, follow, coordinator_part, office_part, turn, WaitsAt, Busy}
 
 pub held : Lane → ℕ
 held l = length l.waiting
@@ -213,13 +212,13 @@ unfolding hear Grows
 hear_fallen j i byte s =
     let h = heard i (message byte) s.books in
     let r = replies_grow h.reply h.books s.lanes in
-    record { less = hear_falls i byte s; others = λ n _. r.0 n; setting = ap (λ (b : Books). b.setting) r.1 ∙ (heard_lower i (message byte) s.books).setting; long = (hear_holds i byte s refl).long }
+    record { less = hear_falls i byte s; others = λ n _. r.0 n; setting = ap (λ (b : Books). b.setting) r.1 ∙ (heard_lower i (message byte) s.books).setting; long = (hear_holds i byte s).long }
 
 attend_fallen : (j i byte : ℕ) (s : State) → Fallen j s (follow i byte s).state
 unfolding follow Grows
 attend_fallen j i byte s =
     let t = followed i (message byte) s.books in
-    record { less = attend_falls i byte s; others = λ n _. signal_grows i (office t.books i).step t.signals s.lanes n; setting = (told_less i (message byte) s.books).setting; long = (follow_holds i byte s refl).long }
+    record { less = attend_falls i byte s; others = λ n _. signal_grows i (office t.books i).step t.signals s.lanes n; setting = (told_less i (message byte) s.books).setting; long = (follow_holds i byte s).long }
 
 -- a byte leaves lane j
 taken_state : ℕ → State → List ℕ → State
@@ -301,10 +300,10 @@ module _ (lane_of : ℕ → ℕ) (apart : (a b : ℕ) → lane_of a ≡ lane_of 
       through_on i n i₀ s (f i₀ s).answer from to some (λ t from to some ok. each_through i n (i₀ + 1) t from to some ok) ok
 
 hear_part : (i : ℕ) (s : State) → (Fallen (2 * i) s (drain (2 * i) (hear i) s).state) × (0 < held (lane s.lanes (2 * i)) → potential (drain (2 * i) (hear i) s).state < potential s)
-hear_part i = drain_fallen (2 * i) (hear i) (λ b s. hear_fallen (2 * i) i b s) (λ b s. hear_holds i b s refl)
+hear_part i = drain_fallen (2 * i) (hear i) (λ b s. hear_fallen (2 * i) i b s) (λ b s. hear_holds i b s)
 
 attend_part : (i : ℕ) (s : State) → (Fallen (2 * i + 1) s (drain (2 * i + 1) (follow i) s).state) × (0 < held (lane s.lanes (2 * i + 1)) → potential (drain (2 * i + 1) (follow i) s).state < potential s)
-attend_part i = drain_fallen (2 * i + 1) (follow i) (λ b s. attend_fallen (2 * i + 1) i b s) (λ b s. follow_holds i b s refl)
+attend_part i = drain_fallen (2 * i + 1) (follow i) (λ b s. attend_fallen (2 * i + 1) i b s) (λ b s. follow_holds i b s)
 
 even_apart : (a b : ℕ) → 2 * a ≡ 2 * b → a ≡ b
 even_apart a b e = omega arith

@@ -1,6 +1,7 @@
 pub mod After
 pub mod Even
 pub mod Steps
+pub mod Keeping
 pub mod Drains
 pub mod Sound
 pub mod Opens

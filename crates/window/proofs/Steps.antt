@@ -1,5 +1,5 @@
 -- The steps of programs. Assumes nothing.
-use Rattle.std.proofs.Common.{◌≡◌, ℕ, zero, suc, ◌+◌, ◌-◌, ◌<◌, ◌≤◌, IsErrAnd, Ok, Err, Result, sym, ap, ◌∙◌, arith}
+use Rattle.std.proofs.Common.{◌≡◌, ℕ, suc, ◌+◌, ◌-◌, ◌<◌, ◌≤◌, IsErrAnd, Ok, Err, Result, sym, ap, ◌∙◌, arith}
 use Rattle.fault.specs.declared.Fault.{Fault}
 use Rattle.std.proofs.lemmas.Result.{err_from_is_err_and}
 use Rattle.post.specs.Outs.{Out, out}
@@ -35,14 +35,3 @@ each_none f k s = let e : k - 0 ≡ k = omega arith in ap (λ n. each n 0 f s) e
 -- what `?` returns is the fault as it came
 pub passed : {S T : Type 0} {s : S} {q : Result T Fault} {e : Fault} {m : Out S T} → IsErrAnd q (λ y. y ≡ e) → out s (Err e) ≡ m → out s q ≡ m
 passed {s} {q} by eq = let p = err_from_is_err_and q by in ap (out s) (p.1 ∙ ap Err p.2) ∙ eq
-
--- what every part keeps, all of them keep
-module _ {S : Type 0} (Q : S → S → Type 0) (stays : (s : S) → Q s s) (joins : (a b c : S) → Q a b → Q b c → Q a c) (f : ℕ → S → Out S (Unit {0})) (keeps : (i : ℕ) (s : S) → Q s (f i s).state) where
-  go_on_keeps : (a : Result (Unit {0}) Fault) (s t : S) (h : S → Unit {0} → Out S (Unit {0})) → Q s t → ((u : S) → Q u (h u tt).state) → Q s (go_on a t h).state
-  go_on_keeps (Ok x) s t h q k = joins s t _ q (k t)
-  go_on_keeps (Err e) s t h q k = q
-
-  pub each_keeps : (n i : ℕ) (s : S) → Q s (each n i f s).state
-  unfolding each then
-  each_keeps zero i s = stays s
-  each_keeps (suc n) i s = go_on_keeps (f i s).answer s (f i s).state (λ t _. each n (i + 1) f t) (keeps i s) (λ u. each_keeps n (i + 1) u)

@@ -25,6 +25,11 @@ with_lanes b o = out (at b o.state) o.answer
 abbrev pub tell : ℕ → ℕ → List Lane → Out (List Lane) (Unit {0})
 tell k b ls = each k 0 (λ i. send (2 * i + 1) b) ls
 
+-- a lane still holds what it held
+pub record Holds (j : ℕ) (ls ls' : List Lane) : Type 0 where
+  pub long : length ls' ≡ length ls
+  pub same : (lane ls' j).waiting ≡ (lane ls j).waiting
+
 -- takes a lane until it is empty, and does f with each byte
 unfoldable pub with_each : ℕ → (ℕ → State → Out State (Unit {0})) → List ℕ → State → Out State (Unit {0})
 with_each j f [] s = fine s
@@ -32,6 +37,10 @@ with_each j f (b ∷ bs) s = then (f b (at s.books (taken (b ∷ bs) j s.lanes).
 
 unfoldable pub drain : ℕ → (ℕ → State → Out State (Unit {0})) → State → Out State (Unit {0})
 drain j f s = cond (nat_le (length s.lanes) j) (out s (Err (lane_fault NoSuchOfficeOrLane j))) (with_each j f (lane s.lanes j).waiting s)
+
+-- one of the two parts of a turn: the lane that way of each office in turn
+abbrev pub part : (way : ℕ → ℕ) → (f : ℕ → ℕ → State → Out State (Unit {0})) → ℕ → State → Out State (Unit {0})
+part way f k s = each k 0 (λ i. drain (way i) (f i)) s
 
 -- the coordinator has taken a byte of office i
 abbrev pub replies : Option ℕ → Books → List Lane → Out State (Unit {0})
@@ -43,7 +52,7 @@ hear i byte s = replies (heard i (message byte) s.books).reply (heard i (message
 
 -- the coordinator's part of a turn
 abbrev pub coordinator_part : ℕ → State → Out State (Unit {0})
-coordinator_part k s = each k 0 (λ i. drain (2 * i) (hear i)) s
+coordinator_part k s = part (λ i. 2 * i) hear k s
 
 -- n signals of a step from office i
 abbrev pub signal : ℕ → ℕ → ℕ → List Lane → Out (List Lane) (Unit {0})
@@ -58,7 +67,7 @@ follow i byte s = answers i (followed i (message byte) s.books) s.lanes
 
 -- the offices' part of a turn
 abbrev pub office_part : ℕ → State → Out State (Unit {0})
-office_part k s = each k 0 (λ i. drain (2 * i + 1) (follow i)) s
+office_part k s = part (λ i. 2 * i + 1) follow k s
 
 unfoldable pub turn : State → Out State (Unit {0})
 turn s = then (coordinator_part s.books.setting.offices s) (λ t _. office_part t.books.setting.offices t)

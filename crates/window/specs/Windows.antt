@@ -12,6 +12,7 @@ use Rattle.rules.specs.Runs.{Answer, Runs, Books as BooksShown, books, accepted_
 use Rattle.rules.specs.Laws.{ClosesAtCeiling, FollowsFromLots}
 use Rattle.window.specs.declared.setting_table.SettingTable.{SettingTable}
 use Rattle.window.specs.declared.books.Books.{Books}
+use Rattle.window.specs.declared.place.Place.{Place}
 use Rattle.window.specs.declared.Window.{Window}
 use Rattle.window.specs.Parts.{office, slack}
 use Rattle.window.specs.Turns.{State, at}
@@ -60,6 +61,11 @@ setting_of w = setting_in w.checked.books.setting
 abbrev pub books_of : {P : Type 0} → (P → List Lane) → Window P → BooksShown
 books_of lanes w = shown (state_of lanes w)
 
+-- What a call leaves beside the books and the lanes: the post came to be what it is, and whether it was used before is as it was.
+pub record Kept {P : Type 0} (may_become : P → P → Type 0) (old new : Window P) : Type 0 where
+  pub became : may_become old.post new.post
+  pub used : new.used ≡ old.used
+
 -- The window was opened on an unused post, and then had exactly these lot calls, refused ones included, with these answers.
 abbrev pub Reached : {P : Type 0} → (P → List Lane) → List ℕ → List Answer → Window P → Type 0
 Reached lanes lots answers w = ReachedBy lots answers w.used (state_of lanes w)
@@ -78,3 +84,8 @@ NothingWaits lanes = (i : ℕ) → length (lane lanes i).waiting ≡ 0
 -- What a question about office n answers, where v is the figure asked for.
 abbrev pub asked : ℕ → Books → ℕ → Result ℕ Fault
 asked n b v = cond (n == 0 || nat_lt b.setting.offices n) (Err (fault InWindow NoSuchOfficeOrLane n)) (Ok v)
+
+-- The place that an answer names, by its number.
+abbrev pub index_of : Result Place Fault → Result ℕ Fault
+index_of (Ok p) = Ok p.index
+index_of (Err f) = Err f

@@ -7,12 +7,12 @@ ghost use Rattle.post.specs.Outs.{out};
 ghost use Rattle.rules.specs.Runs.{Answer};
 ghost use Rattle.window.specs.Opening.{opened};
 ghost use Rattle.window.specs.Turns.{Accepts, admitted};
-ghost use Rattle.window.specs.Windows.{setting_for, setting_of, state_of, books_of, Reached, LawfulBooks, NothingWaits, asked};
+ghost use Rattle.window.specs.Windows.{setting_for, setting_of, state_of, books_of, Reached, LawfulBooks, NothingWaits, Kept, index_of, asked};
 
 use crate::Window;
 use crate::faults::window_fault;
 use crate::opening::{open_books, read_setting};
-use crate::settling::signal_and_settle;
+use crate::place::Place;
 use fault::{Fault, Refusal};
 use ladder::Ladder;
 use post::{MessageCount, Post, is_unused, message_count};
@@ -37,18 +37,18 @@ impl<P: Post> Window<P> {
     }
 
     // The place of an office in the table.
-    fn place_of(&self, office: u32) -> Result<u32, Fault>
-        ensures { result ≡ asked office self.now.checked.books (office - 1) }
+    fn place_of(&self, office: u32) -> Result<Place, Fault>
+        ensures { index_of result ≡ asked office self.now.checked.books (office - 1) }
     {
         if office == 0 || office > self.checked.books.setting.offices {
             return Err(window_fault(Refusal::NoSuchOfficeOrLane, office));
         }
-        Ok(office - 1)
+        Ok(Place { index: office - 1 })
     }
 
     // Whether a lot at the office is admitted, and the office's place in the table.
-    fn admit(&self, office: u32) -> Result<u32, Fault>
-        ensures { result ≡ admitted self.now.used office self.now.checked.books }
+    fn admit(&self, office: u32) -> Result<Place, Fault>
+        ensures { index_of result ≡ admitted self.now.used office self.now.checked.books }
     {
         if self.used {
             return Err(window_fault(Refusal::PostUsed, 0));
@@ -61,14 +61,12 @@ impl<P: Post> Window<P> {
     }
 
     // Counts a lot at a place of the table, and sends what follows from it.
-    fn accept(&mut self, i: u32) -> Result<(), Fault>
-        requires { i < 64 }
-        ensures used { self.new.used ≡ self.old.used }
-        ensures became { P.Post.became self.old.post self.new.post }
-        ensures did { Accepts i (state_of P.Post.lanes self.old) (out (state_of P.Post.lanes self.new) result) }
+    fn accept(&mut self, place: Place) -> Result<(), Fault>
+        ensures kept { Kept P.Post.became self.old self.new }
+        ensures did { Accepts place.index (state_of P.Post.lanes self.old) (out (state_of P.Post.lanes self.new) result) }
     {
-        if self.checked.count(i) {
-            return signal_and_settle(&mut self.post, &mut self.checked, i);
+        if self.checked.count(place) {
+            return self.signal_and_settle(place);
         }
         Ok(())
     }
@@ -127,14 +125,14 @@ impl<P: Post> Window<P> {
         ensures { result ≡ asked office self.now.checked.books (slice_index (books_of P.Post.lanes self.now).credits (office - 1)) }
     {
         let place = self.place_of(office)?;
-        Ok(self.checked.books.table[place as usize].credit)
+        Ok(self.checked.record(place).credit)
     }
 
     pub fn remainder(&self, office: u32) -> Result<u32, Fault>
         ensures { result ≡ asked office self.now.checked.books (slice_index (books_of P.Post.lanes self.now).remainders (office - 1)) }
     {
         let place = self.place_of(office)?;
-        Ok(self.checked.books.table[place as usize].remainder)
+        Ok(self.checked.record(place).remainder)
     }
 
     pub fn post(&self) -> &P

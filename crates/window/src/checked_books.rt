@@ -3,6 +3,7 @@ ghost use Rattle.std.specs.Prelude.{◌≡◌, ℕ, ◌+◌, ◌-◌, ◌*◌, �
 ghost use Rattle.window.specs.Parts.{message as message_of, phase, heard, heard_of, signalled, quota, slack, office, Paid, followed, followed_of, moved, due, counted};
 
 use crate::books::{Books, Coordinator, Message, OfficeRecord, Phase};
+use crate::place::Place;
 
 // A message is one byte: 32 times its kind, and its step. A signal is of kind 1.
 pub const SIGNAL: u32 = 32;
@@ -52,6 +53,13 @@ impl CheckedBooks {
         }
     }
 
+    // The record of the office at the place.
+    pub fn record(&self, place: Place) -> OfficeRecord
+        ensures { result ≡ office self.now.books place.index }
+    {
+        self.books.table[place.index as usize]
+    }
+
     // Whether one signal more reaches the quota of the coordinator's step.
     fn one_more_is_full(&self) -> bool
         ensures { result ≡ (self.now.books.coordinator.signals + 1 == quota self.now.books.setting self.now.books.coordinator.step) }
@@ -62,18 +70,17 @@ impl CheckedBooks {
     }
 
     // A signal that does not finish the step.
-    fn count_signal(&mut self, i: u32)
-        requires within { i < 64 }
+    fn count_signal(&mut self, place: Place)
         requires going { self.old.books.coordinator.closed ≡ false }
         requires more { (self.old.books.coordinator.signals + 1 == quota self.old.books.setting self.old.books.coordinator.step) ≡ false }
-        ensures { heard_of self.new.books None ≡ signalled i self.old.books }
+        ensures { heard_of self.new.books None ≡ signalled place.index self.old.books }
     {
         let Coordinator {
             step,
             signals,
             closed: _,
         } = self.books.coordinator;
-        self.books.table[i as usize].credit += self.books.setting.slacks[step as usize];
+        self.books.table[place.index as usize].credit += self.books.setting.slacks[step as usize];
         self.books.coordinator = Coordinator {
             step,
             signals: signals + 1,
@@ -82,18 +89,17 @@ impl CheckedBooks {
     }
 
     // The signal that finishes the step: below the last step the next one starts, at the last the window closes. Gives the byte that all offices are told.
-    fn finish_step(&mut self, i: u32) -> u8
-        requires within { i < 64 }
+    fn finish_step(&mut self, place: Place) -> u8
         requires going { self.old.books.coordinator.closed ≡ false }
         requires full { (self.old.books.coordinator.signals + 1 == quota self.old.books.setting self.old.books.coordinator.step) ≡ true }
-        ensures { heard_of self.new.books (Some result) ≡ signalled i self.old.books }
+        ensures { heard_of self.new.books (Some result) ≡ signalled place.index self.old.books }
     {
         let Coordinator {
             step,
             signals,
             closed: _,
         } = self.books.coordinator;
-        self.books.table[i as usize].credit += self.books.setting.slacks[step as usize];
+        self.books.table[place.index as usize].credit += self.books.setting.slacks[step as usize];
         if step < self.books.setting.steps {
             self.books.coordinator = Coordinator {
                 step: step + 1,
@@ -110,36 +116,34 @@ impl CheckedBooks {
         (CLOSE + step) as u8
     }
 
-    // The coordinator hears a message from the office at place i, and gives what it then tells all offices, if anything.
-    pub fn hear(&mut self, i: u32, message: Message) -> Option<u8>
-        requires { i < 64 }
-        ensures { heard_of self.new.books result ≡ heard i message self.old.books }
+    // The coordinator hears a message from the office at the place, and gives what it then tells all offices, if anything.
+    pub fn hear(&mut self, place: Place, message: Message) -> Option<u8>
+        ensures { heard_of self.new.books result ≡ heard place.index message self.old.books }
     {
         match (self.phase(), message, self.one_more_is_full()) {
             (Phase::Open(step), Message::Signal(of), false) if of == step => {
-                self.count_signal(i);
+                self.count_signal(place);
                 None
             }
             (Phase::Open(step), Message::Signal(of), true) if of == step => Some(self.finish_step(
-                i,
+                place,
             )),
             _ => None,
         }
     }
 
-    // The office at place i moves to its next step, keeps what is left of its remainder, and gives the number of signals that it owes.
-    fn advance(&mut self, i: u32) -> u32
-        requires within { i < 64 }
-        requires more { (office self.old.books i).step < self.old.books.setting.steps }
-        ensures { followed_of self.new.books result ≡ moved i self.old.books }
+    // The office at the place moves to its next step, keeps what is left of its remainder, and gives the number of signals that it owes.
+    fn advance(&mut self, place: Place) -> u32
+        requires { (office self.old.books place.index).step < self.old.books.setting.steps }
+        ensures { followed_of self.new.books result ≡ moved place.index self.old.books }
     {
         let OfficeRecord {
             step,
             credit,
             remainder,
-        } = self.books.table[i as usize];
+        } = self.books.table[place.index as usize];
         let slack = self.books.setting.slacks[step as usize + 1];
-        self.books.table[i as usize] = OfficeRecord {
+        self.books.table[place.index as usize] = OfficeRecord {
             step: step + 1,
             credit,
             remainder: remainder % slack,
@@ -147,34 +151,32 @@ impl CheckedBooks {
         remainder / slack
     }
 
-    // The office at place i follows a message, and gives the number of signals that it owes.
-    pub fn follow(&mut self, i: u32, message: Message) -> u32
-        requires { i < 64 }
-        ensures { followed_of self.new.books result ≡ followed i message self.old.books }
+    // The office at the place follows a message, and gives the number of signals that it owes.
+    pub fn follow(&mut self, place: Place, message: Message) -> u32
+        ensures { followed_of self.new.books result ≡ followed place.index message self.old.books }
     {
         match message {
             Message::Start(j)
-                if j == self.books.table[i as usize].step + 1 && j <= self.books.setting.steps =>
-                self.advance(i),
+                if j == self.record(place).step + 1 && j <= self.books.setting.steps =>
+                self.advance(place),
             _ => 0,
         }
     }
 
-    // A lot at the office at place i; tells whether the office owes a signal.
-    pub fn count(&mut self, i: u32) -> bool
-        requires { i < 64 }
-        ensures due { result ≡ due i self.old.books }
-        ensures counted { self.new.books ≡ counted i self.old.books }
+    // A lot at the office at the place; tells whether the office owes a signal.
+    pub fn count(&mut self, place: Place) -> bool
+        ensures due { result ≡ due place.index self.old.books }
+        ensures counted { self.new.books ≡ counted place.index self.old.books }
     {
         let OfficeRecord {
             step,
             credit,
             remainder,
-        } = self.books.table[i as usize];
+        } = self.books.table[place.index as usize];
         let slack = self.books.setting.slacks[step as usize];
         let full = remainder + 1 == slack;
         let remainder = if full { 0 } else { remainder + 1 };
-        self.books.table[i as usize] = OfficeRecord {
+        self.books.table[place.index as usize] = OfficeRecord {
             step,
             credit,
             remainder,

@@ -7,9 +7,11 @@ mod checked_books;
 mod comparing;
 mod faults;
 mod opening;
+mod place;
 mod setting_table;
 mod settling;
 mod turns;
+mod ways;
 
 use checked_books::CheckedBooks;
 pub use comparing::same_books;

@@ -2,10 +2,12 @@
 ghost use Rattle.std.specs.Prelude.{◌≡◌, ℕ, ◌+◌, ◌-◌, ◌*◌, ◌^◌, ◌<◌, ◌≤◌, true, false, List, [], length};
 ghost use Rattle.post.specs.Lanes.{lane as lane_of};
 ghost use Rattle.post.specs.Outs.{out};
-ghost use Rattle.window.specs.Turns.{at, Busy, Calm, Settled, Signals};
+ghost use Rattle.window.specs.Turns.{Busy, Calm, Settled, Signals};
+ghost use Rattle.window.specs.Windows.{state_of, Kept};
 
-use crate::checked_books::{CheckedBooks, SIGNAL};
-use crate::turns::turn;
+use crate::Window;
+use crate::checked_books::SIGNAL;
+use crate::place::Place;
 use fault::Fault;
 use post::Post;
 
@@ -20,39 +22,40 @@ fn holds_any<P: Post>(post: &P, lane: u32) -> bool
     }
 }
 
-// Whether anything waits on a lane of one of the window's offices.
-fn is_busy<P: Post>(post: &P, checked: &CheckedBooks) -> bool
-    ensures yes { result ≡ true → Busy (at checked.now.books (P.Post.lanes post.now)) }
-    ensures no { result ≡ false → Calm (at checked.now.books (P.Post.lanes post.now)) }
-{
-    for i in 0..checked.books.setting.offices {
-        if holds_any(post, 2 * i) || holds_any(post, 2 * i + 1) {
-            return true;
+impl<P: Post> Window<P> {
+    // Whether anything waits on a lane of one of the offices.
+    fn is_busy(&self) -> bool
+        ensures yes { result ≡ true → Busy (state_of P.Post.lanes self.now) }
+        ensures no { result ≡ false → Calm (state_of P.Post.lanes self.now) }
+    {
+        for index in 0..self.checked.books.setting.offices {
+            let place = Place { index };
+            if holds_any(&self.post, place.lane_up()) || holds_any(&self.post, place.lane_down()) {
+                return true;
+            }
         }
+        false
     }
-    false
-}
 
-fn settle<P: Post>(post: &mut P, checked: &mut CheckedBooks) -> Result<(), Fault>
-    ensures became { P.Post.became post.old post.new }
-    ensures did { Settled (at checked.old.books (P.Post.lanes post.old)) (out (at checked.new.books (P.Post.lanes post.new)) result) }
-{
-    while is_busy(post, checked) {
-        turn(post, checked)?;
+    fn settle(&mut self) -> Result<(), Fault>
+        ensures kept { Kept P.Post.became self.old self.new }
+        ensures did { Settled (state_of P.Post.lanes self.old) (out (state_of P.Post.lanes self.new) result) }
+    {
+        while self.is_busy() {
+            self.turn()?;
+        }
+        Ok(())
     }
-    Ok(())
-}
 
-// The office at place i sends a signal of its step, and turns follow.
-pub fn signal_and_settle<P: Post>(
-    post: &mut P,
-    checked: &mut CheckedBooks,
-    i: u32,
-) -> Result<(), Fault>
-    requires { i < 64 }
-    ensures became { P.Post.became post.old post.new }
-    ensures did { Signals i (at checked.old.books (P.Post.lanes post.old)) (out (at checked.new.books (P.Post.lanes post.new)) result) }
-{
-    post.send(2 * i, (SIGNAL + checked.books.table[i as usize].step) as u8)?;
-    settle(post, checked)
+    // The office at the place sends a signal of its step, and turns follow.
+    pub fn signal_and_settle(&mut self, place: Place) -> Result<(), Fault>
+        ensures kept { Kept P.Post.became self.old self.new }
+        ensures did { Signals place.index (state_of P.Post.lanes self.old) (out (state_of P.Post.lanes self.new) result) }
+    {
+        self.post.send(
+            place.lane_up(),
+            (SIGNAL + self.checked.record(place).step) as u8,
+        )?;
+        self.settle()
+    }
 }

@@ -4,7 +4,7 @@ use Rattle.fault.specs.declared.Layer.TheVariants.{Post, Window}
 use Rattle.rules.specs.Runs.{Answer}
 use Rattle.window.specs.Turns.{at}
 use Rattle.window.specs.Windows.{setting_in, ReachedBy}
-use Rattle.window.proofs.Until.{admitted_next, refused_next, place_few, accepts_alone}
+use Rattle.window.proofs.Until.{admitted_next, refused_next, accepts_alone}
 use Rattle.window.proofs.Posted.{Posted, accepts_posted}
 use Rattle.window.proofs.Shown.{to_held, next_reached}
 use Rattle.window.proofs.Lawful.{lawful, nothing_waits}
@@ -26,9 +26,6 @@ not_ours r f p e ours =
 
 accepted-so : {X : Type 0} (r : Answer) (f : Fault) → r ≡ Ok tt → r ≡ Err f → X
 accepted-so r f is_ok is_err = let z : ◌≡◌ {A = ℕ} 0 1 = cc in absurd (omega arith)
-
-pub accept-requires : goal.accept-requires
-accept-requires g c = place_few c.args.self.now.used c.args.office c.in-Ok.place c.args.self.now.checked.books c.in-Ok.ensures
 
 pub returns-in-Err : goal.returns-in-Err
 returns-in-Err g c =
@@ -59,18 +56,18 @@ returns-in-Ok g c =
     let ls = g.P.Post.lanes p in
     let used = c.args.self.now.used in
     let n = c.args.office in
-    let i = c.in-Ok.place in
+    let i = c.in-Ok.place.index in
     let w = c.accept.new.self in
     let r = c.accept.result in
     let v = at w.checked.books (g.P.Post.lanes w.post) in
     let alone = accepts_alone i (at d.books ls) c.accept.ensures.did in
     let reached : (lots : List ℕ) (rs : List Answer) → ReachedBy lots rs used (at d.books ls) → ReachedBy (lots ++ n ∷ []) (rs ++ r ∷ []) w.used v = λ lots rs re.
-    subst (λ u. ReachedBy (lots ++ n ∷ []) (rs ++ r ∷ []) u v) (sym c.accept.ensures.used)
+    subst (λ u. ReachedBy (lots ++ n ∷ []) (rs ++ r ∷ []) u v) (sym c.accept.ensures.kept.used)
     (next_reached d ls used lots rs re n v r alone.setting (admitted_next d ls (setting_in d.books.setting) lots used n i (to_held d ls used lots rs re) c.in-Ok.ensures v r c.accept.ensures.did).0) in
     record {
-      became = c.accept.ensures.became;
+      became = c.accept.ensures.kept.became;
       setting = alone.setting;
-      used = c.accept.ensures.used;
+      used = c.accept.ensures.kept.used;
       offices = omega (arith, (g.met.P.Post.sound p).both_ways, (g.met.P.Post.sound w.post).both_ways, alone.long);
       refused = λ h e. no_fault i h (c.in-Ok.ensures ∙ e);
       ours = λ h e layer. not_ours r h (accepts_posted i (at d.books ls) c.accept.ensures.did) e layer;

@@ -4,7 +4,7 @@ use Rattle.window.proofs.Sound.{sound_move}
 use Rattle.window.proofs.checked_books.CheckedBooks.advance.Goals as goal
 
 pub invariant_of-self : goal.invariant_of-self
-invariant_of-self c = let s = sound_move c.args.self.now c.args.i c.requires.within c.requires.more in
+invariant_of-self c = let s = sound_move c.args.self.now c.args.place.index c.args.place.within c.requires in
     let h = s.coordinator in
     record {
       tall = s.tall;

@@ -5,15 +5,15 @@ use Rattle.window.proofs.checked_books.CheckedBooks.count.Goals as goal
 use Rattle.window.proofs.checked_books.CheckedBooks.count.Goals.{then-full, else-full}
 
 pub overflow_add-full : goal.overflow_add-full
-overflow_add-full c = omega (arith, c.args.self.now.left c.args.i c.requires)
+overflow_add-full c = omega (arith, c.args.self.now.left c.args.place.index c.args.place.within)
 
 pub invariant_of-self : goal.invariant_of-self
 invariant_of-self c =
     let d = c.args.self.now in
-    let left = d.left c.args.i c.requires in
-    let some = d.books.setting.grain _ (d.within c.args.i c.requires) in
-    let less : c.if-full.remainder < slack d.books.setting (office d.books c.args.i).step = elim c.if-full.branch [ then-full w ↦ omega (arith, w.remainder-is) | else-full w ↦ omega (arith, w.remainder-is, w.if-full.false) ] in
-    let s = sound_count d c.args.i c.requires _ less in
+    let left = d.left c.args.place.index c.args.place.within in
+    let some = d.books.setting.grain _ (d.within c.args.place.index c.args.place.within) in
+    let less : c.if-full.remainder < slack d.books.setting (office d.books c.args.place.index).step = elim c.if-full.branch [ then-full w ↦ omega (arith, w.remainder-is) | else-full w ↦ omega (arith, w.remainder-is, w.if-full.false) ] in
+    let s = sound_count d c.args.place.index c.args.place.within _ less in
     let h = s.coordinator in
     record {
       tall = s.tall;

@@ -5,11 +5,11 @@ use Rattle.window.proofs.Sound.{credit_fits, sound_signal}
 use Rattle.window.proofs.checked_books.CheckedBooks.count_signal.Goals as goal
 
 pub overflow_add-self : goal.overflow_add-self
-overflow_add-self c = omega (arith, credit_fits c.args.self.now c.args.i c.requires.within c.requires.going)
+overflow_add-self c = omega (arith, credit_fits c.args.self.now c.args.place.index c.args.place.within c.requires.going)
 
 pub invariant_of-self : goal.invariant_of-self
 invariant_of-self c =
-    let s = sound_signal c.args.self.now c.args.i c.requires.within (eqb-false _ _ c.requires.more) c.requires.going in
+    let s = sound_signal c.args.self.now c.args.place.index c.args.place.within (eqb-false _ _ c.requires.more) c.requires.going in
     let h = s.coordinator in
     record {
       tall = s.tall;

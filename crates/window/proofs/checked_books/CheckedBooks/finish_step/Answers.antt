@@ -5,11 +5,11 @@ use Rattle.window.proofs.Sound.{credit_fits, sound_next, sound_close}
 use Rattle.window.proofs.checked_books.CheckedBooks.finish_step.Goals as goal
 
 pub overflow_add-self : goal.overflow_add-self
-overflow_add-self c = omega (arith, credit_fits c.args.self.now c.args.i c.requires.within c.requires.going)
+overflow_add-self c = omega (arith, credit_fits c.args.self.now c.args.place.index c.args.place.within c.requires.going)
 
 pub invariant_of-self : goal.invariant_of-self
 invariant_of-self c =
-    let s = sound_next c.args.self.now c.args.i c.requires.within (eqb-true _ _ c.requires.full) c.if-step-self.true in
+    let s = sound_next c.args.self.now c.args.place.index c.args.place.within (eqb-true _ _ c.requires.full) c.if-step-self.true in
     let h = s.coordinator in
     record {
       tall = s.tall;
@@ -31,7 +31,7 @@ returns-then-step-self c = sym (cond-true _ _ _ c.requires.full ∙ cond-true _ 
 
 pub invariant_of-self-2 : goal.invariant_of-self-2
 invariant_of-self-2 c =
-    let s = sound_close c.args.self.now c.args.i c.requires.within (eqb-true _ _ c.requires.full) c.if-step-self.false in
+    let s = sound_close c.args.self.now c.args.place.index c.args.place.within (eqb-true _ _ c.requires.full) c.if-step-self.false in
     let h = s.coordinator in
     record {
       tall = s.tall;

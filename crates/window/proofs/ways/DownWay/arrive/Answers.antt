@@ -1,0 +1,5 @@
+use Rattle.window.proofs.Drains.{follow_did}
+use Rattle.window.proofs.ways.DownWay.arrive.Goals as goal
+
+pub returns-clause-did : goal.returns-clause-did
+returns-clause-did g c = follow_did _ _ _ _ _ _ _ c.read_message.ensures c.follow-count.ensures c.signal.ensures.did
