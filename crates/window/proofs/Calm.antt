@@ -1,5 +1,5 @@
 -- What a lot does to a window whose lanes are empty. Assumes nothing.
-use Rattle.std.proofs.Common.{◌≡◌, ℕ, zero, suc, ◌+◌, ◌*◌, ◌/◌, ◌%◌, ◌<◌, ◌≤◌, false, ◌≢◌, List, [], ◌∷◌, ◌++◌, length, set, None, Ok, sym, refl, ap, ◌∙◌, subst, ⊎_elim, arith}
+use Rattle.std.proofs.Common.{◌≡◌, ℕ, zero, suc, ◌+◌, ◌*◌, ◌/◌, ◌%◌, ◌<◌, ◌≤◌, false, ◌≢◌, List, [], ◌∷◌, ◌++◌, length, set, Some, None, Ok, sym, refl, ap, ◌∙◌, subst, ⊎_elim, arith}
 use Rattle.std.proofs.lemmas.List.{length-set, get_or-set_same, get_or-set_other, set_past, set-set}
 use Rattle.std.proofs.lemmas.Bool.{cases_lt, cases_eq, lt-leb, eq-eqb, ne_eqb, cond-true, cond-false}
 use Rattle.post.specs.Lanes.{Lane, lane, no_lane, send, sends, send_answer, joined}
@@ -7,7 +7,7 @@ use Rattle.post.specs.Outs.{Out}
 use Rattle.window.specs.Sequences.{fine, then, each}
 use Rattle.window.specs.declared.setting_table.SettingTable.{SettingTable}
 use Rattle.window.specs.declared.books.Books.{Books}
-use Rattle.window.specs.declared.books.Message.TheVariants.{Signal, Start, Close}
+use Rattle.window.specs.declared.message.Message.TheVariants.{Signal, Start, Close}
 use Rattle.window.specs.Parts.{Heard, heard, heard_of, message, Followed, followed, followed_of, signalled, office, quota, in_coordinator}
 use Rattle.window.specs.Turns.{State, at, with_lanes, tell, with_each, drain, replies, hear, answers, follow, coordinator_part, office_part, turn, signal_and_settle}
 use Rattle.window.proofs.Even.{Empty}
@@ -90,11 +90,11 @@ send_fine j b ls less few room =
     let a : send_answer ls j ≡ Ok tt = cond-false _ _ _ (lt-leb _ _ less) ∙ cond-false _ _ _ (lt-leb _ _ few) ∙ cond-false _ _ _ (lt-leb _ _ room) in
     ap (λ a. sends a ls (joined ls j b)) a
 
-pub message_signal : (j : ℕ) → j < 32 → message (32 + j) ≡ Signal j
+pub message_signal : (j : ℕ) → j < 32 → message (32 + j) ≡ Some (Signal j)
 message_signal j less =
     let q : (32 + j) / 32 ≡ 1 = omega arith in
     let r : (32 + j) % 32 ≡ j = omega arith in
-    cond-true _ _ _ (eq-eqb _ _ q) ∙ ap Signal r
+    cond-true _ _ _ (eq-eqb _ _ q) ∙ ap (λ j. Some (Signal j)) r
 
 -- a lane of which one byte was sent and taken again
 unfoldable pub once : List Lane → ℕ → List Lane
@@ -216,17 +216,17 @@ module _ (i : ℕ) (s : State) (e : Empty s) (less : i < s.books.setting.offices
       signalled_not : (s.books.coordinator.signals + 1 ≡ quota s.books.setting s.books.coordinator.step → ⊥) → signalled i s.books ≡ heard_of signal_books None
       signalled_not n = cond-false _ _ _ (ne_eqb _ _ n)
 
-pub message_start : (j : ℕ) → j < 32 → message (64 + j) ≡ Start j
+pub message_start : (j : ℕ) → j < 32 → message (64 + j) ≡ Some (Start j)
 message_start j less =
     let q : (64 + j) / 32 ≡ 2 = omega arith in
     let r : (64 + j) % 32 ≡ j = omega arith in
-    cond-false _ _ _ (ne_eqb ((64 + j) / 32) 1 (λ e. omega arith)) ∙ cond-true _ _ _ (eq-eqb _ _ q) ∙ ap Start r
+    cond-false _ _ _ (ne_eqb ((64 + j) / 32) 1 (λ e. omega arith)) ∙ cond-true _ _ _ (eq-eqb _ _ q) ∙ ap (λ j. Some (Start j)) r
 
-message_close : (j : ℕ) → j < 32 → message (96 + j) ≡ Close j
+message_close : (j : ℕ) → j < 32 → message (96 + j) ≡ Some (Close j)
 message_close j less =
     let q : (96 + j) / 32 ≡ 3 = omega arith in
     let r : (96 + j) % 32 ≡ j = omega arith in
-    cond-false _ _ _ (ne_eqb ((96 + j) / 32) 1 (λ e. omega arith)) ∙ cond-false _ _ _ (ne_eqb ((96 + j) / 32) 2 (λ e. omega arith)) ∙ cond-true _ _ _ (eq-eqb _ _ q) ∙ ap Close r
+    cond-false _ _ _ (ne_eqb ((96 + j) / 32) 1 (λ e. omega arith)) ∙ cond-false _ _ _ (ne_eqb ((96 + j) / 32) 2 (λ e. omega arith)) ∙ cond-true _ _ _ (eq-eqb _ _ q) ∙ ap (λ j. Some (Close j)) r
 
 -- the offices read a close
 pub record Closing (k : ℕ) (t u : State) : Type 0 where

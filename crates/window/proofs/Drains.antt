@@ -8,18 +8,18 @@ use Rattle.post.specs.Lanes.{Lane, lane, no_lane, lane_fault, take, taken}
 use Rattle.post.specs.Outs.{Out, out}
 use Rattle.window.specs.Sequences.{fine, then}
 use Rattle.window.specs.declared.books.Books.{Books}
-use Rattle.window.specs.declared.books.Message.{Message}
+use Rattle.window.specs.declared.message.Message.{Message}
 use Rattle.window.specs.Parts.{Heard, heard, heard_of, message, Followed, followed, followed_of}
 use Rattle.window.specs.Turns.{State, Holds, at, with_lanes, with_each, drain, replies, hear, answers, follow}
 use Rattle.window.proofs.Steps.{went, broke}
 
 -- the coordinator has heard what a byte says, and told what it tells
-pub hear_did : (i byte : ℕ) (b b' : Books) (ls : List Lane) (m : Message) (r : Option ℕ) {o : Out State (Unit {0})} → m ≡ message byte → heard_of b' r ≡ heard i m b → o ≡ replies r b' ls → o ≡ hear i byte (at b ls)
+pub hear_did : (i byte : ℕ) (b b' : Books) (ls : List Lane) (m : Option Message) (r : Option Message) {o : Out State (Unit {0})} → m ≡ message byte → heard_of b' r ≡ heard i m b → o ≡ replies r b' ls → o ≡ hear i byte (at b ls)
 unfolding hear
 hear_did i byte b b' ls m r read e told = told ∙ ap (λ (h : Heard). replies h.reply h.books ls) (e ∙ ap (λ m. heard i m b) read)
 
 -- the office has followed what a byte says, and sent the signals that it owes
-pub follow_did : (i byte : ℕ) (b b' : Books) (ls : List Lane) (m : Message) (n : ℕ) {o : Out State (Unit {0})} → m ≡ message byte → followed_of b' n ≡ followed i m b → o ≡ answers i (followed_of b' n) ls → o ≡ follow i byte (at b ls)
+pub follow_did : (i byte : ℕ) (b b' : Books) (ls : List Lane) (m : Option Message) (n : ℕ) {o : Out State (Unit {0})} → m ≡ message byte → followed_of b' n ≡ followed i m b → o ≡ answers i (followed_of b' n) ls → o ≡ follow i byte (at b ls)
 unfolding follow
 follow_did i byte b b' ls m n read e sent = sent ∙ ap (λ (t : Followed). answers i t ls) (e ∙ ap (λ m. followed i m b) read)
 

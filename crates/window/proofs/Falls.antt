@@ -12,9 +12,9 @@ use Rattle.window.specs.Sequences.{go_on, then, each}
 use Rattle.window.specs.declared.books.Books.{Books}
 use Rattle.window.specs.declared.setting_table.SettingTable.{SettingTable}
 use Rattle.window.specs.declared.books.OfficeRecord.{OfficeRecord}
-use Rattle.window.specs.declared.books.Message.{Message}
-use Rattle.window.specs.declared.books.Message.TheVariants.{Signal, Start, Close, Other}
-use Rattle.window.specs.Parts.{Heard, heard, heard_of, message, Followed, followed, followed_of, moved, signalled, office, no_office, slack, in_coordinator}
+use Rattle.window.specs.declared.message.Message.{Message}
+use Rattle.window.specs.declared.message.Message.TheVariants.{Signal, Start, Close}
+use Rattle.window.specs.Parts.{Heard, byte_of, heard, heard_of, message, Followed, followed, followed_of, moved, signalled, office, no_office, slack, in_coordinator}
 use Rattle.window.specs.Keeps.{each_keeps, hear_holds, follow_holds}
 use Rattle.window.specs.Turns.{State, Holds, at, tell, signal, with_each, drain, replies, hear, follow, coordinator_part, office_part, turn, WaitsAt, Busy}
 
@@ -72,7 +72,7 @@ rests_set b i n o le =
 credit_record : Books → ℕ → OfficeRecord
 credit_record b i = record { step = (office b i).step; credit = (office b i).credit + slack b.setting b.coordinator.step; remainder = (office b i).remainder }
 
-spoken : Option ℕ → ℕ
+spoken : Option Message → ℕ
 spoken None = 0
 spoken (Some m) = 1
 
@@ -84,8 +84,8 @@ record Lower (b : Books) (h : Heard) : Type 0 where
 signalled_on : (i : ℕ) (b : Books) → b.coordinator.closed ≡ false → (t : Bool) → (u : Bool) → ltb b.coordinator.step b.setting.steps ≡ u →
     Lower b (cond t
     (cond u
-    (heard_of (in_coordinator b i (record { step = b.coordinator.step + 1; signals = 0; closed = false })) (Some (64 + (b.coordinator.step + 1))))
-    (heard_of (in_coordinator b i (record { step = b.coordinator.step; signals = b.coordinator.signals + 1; closed = true })) (Some (96 + b.coordinator.step))))
+    (heard_of (in_coordinator b i (record { step = b.coordinator.step + 1; signals = 0; closed = false })) (Some (Start (b.coordinator.step + 1))))
+    (heard_of (in_coordinator b i (record { step = b.coordinator.step; signals = b.coordinator.signals + 1; closed = true })) (Some (Close b.coordinator.step))))
     (heard_of (in_coordinator b i (record { step = b.coordinator.step; signals = b.coordinator.signals + 1; closed = false })) None))
 unfolding rests ahead spoken credit_record
 signalled_on i b going true true e =
@@ -108,17 +108,17 @@ signal_lower i j b true d e = same_lower b
 signal_lower i j b false true e = signalled_on i b e _ _ refl
 signal_lower i j b false false e = same_lower b
 
-heard_lower : (i : ℕ) (m : Message) (b : Books) → Lower b (heard i m b)
-heard_lower i (Signal j) b = signal_lower i j b _ _ refl
-heard_lower i (Start j) b = same_lower b
-heard_lower i (Close j) b = same_lower b
-heard_lower i Other b = same_lower b
+heard_lower : (i : ℕ) (m : Option Message) (b : Books) → Lower b (heard i m b)
+heard_lower i (Some (Signal j)) b = signal_lower i j b _ _ refl
+heard_lower i (Some (Start j)) b = same_lower b
+heard_lower i (Some (Close j)) b = same_lower b
+heard_lower i None b = same_lower b
 
 -- what the coordinator does with a byte does not raise the potential
-hear_on : (s : State) (o : Option ℕ) (b : Books) → rests b ≤ rests s.books → ahead b + spoken o ≤ ahead s.books → potential (replies o b s.lanes).state ≤ potential s
+hear_on : (s : State) (o : Option Message) (b : Books) → rests b ≤ rests s.books → ahead b + spoken o ≤ ahead s.books → potential (replies o b s.lanes).state ≤ potential s
 unfolding potential spoken
 hear_on s None b r l = omega arith
-hear_on s (Some m) b r l = omega (arith, tell_waits b.setting.offices m s.lanes, b.setting.few)
+hear_on s (Some m) b r l = omega (arith, tell_waits b.setting.offices (byte_of m) s.lanes, b.setting.few)
 
 pub hear_falls : (i byte : ℕ) (s : State) → potential (hear i byte s).state ≤ potential s
 unfolding hear
@@ -152,11 +152,11 @@ start_less i b true true = moved_less i b
 start_less i b true false = same_less b
 start_less i b false d = same_less b
 
-told_less : (i : ℕ) (m : Message) (b : Books) → Less b (followed i m b)
-told_less i (Start j) b = start_less i b (eqb j ((office b i).step + 1)) (leb j b.setting.steps)
-told_less i (Signal j) b = same_less b
-told_less i (Close j) b = same_less b
-told_less i Other b = same_less b
+told_less : (i : ℕ) (m : Option Message) (b : Books) → Less b (followed i m b)
+told_less i (Some (Start j)) b = start_less i b (eqb j ((office b i).step + 1)) (leb j b.setting.steps)
+told_less i (Some (Signal j)) b = same_less b
+told_less i (Some (Close j)) b = same_less b
+told_less i None b = same_less b
 
 pub attend_falls : (i byte : ℕ) (s : State) → potential (follow i byte s).state ≤ potential s
 unfolding follow potential
@@ -202,10 +202,10 @@ signal_grows : (i step n : ℕ) (ls : List Lane) → Grows ls (signal i step n l
 unfolding Grows
 signal_grows i step n ls = each_keeps Grows (λ ls n. omega arith) (λ _ _ _ p q n. omega (arith, p n, q n)) (λ _. send (2 * i) (32 + step)) (λ _ ls. send_grows (send_answer ls (2 * i)) (2 * i) (32 + step) ls) n 0 ls
 
-replies_grow : (o : Option ℕ) (b : Books) (ls : List Lane) → (Grows ls (replies o b ls).state.lanes) × ((replies o b ls).state.books ≡ b)
+replies_grow : (o : Option Message) (b : Books) (ls : List Lane) → (Grows ls (replies o b ls).state.lanes) × ((replies o b ls).state.books ≡ b)
 unfolding Grows
 replies_grow None b ls = ((λ n. omega arith), refl)
-replies_grow (Some m) b ls = (tell_grows b.setting.offices m ls, refl)
+replies_grow (Some m) b ls = (tell_grows b.setting.offices (byte_of m) ls, refl)
 
 hear_fallen : (j i byte : ℕ) (s : State) → Fallen j s (hear i byte s).state
 unfolding hear Grows

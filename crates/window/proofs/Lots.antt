@@ -9,6 +9,7 @@ use Rattle.window.specs.declared.books.Books.{Books}
 use Rattle.window.specs.declared.books.Coordinator.{Coordinator}
 use Rattle.window.specs.declared.checked_books.CheckedBooks.{CheckedBooks}
 use Rattle.window.specs.declared.books.OfficeRecord.{OfficeRecord}
+use Rattle.window.specs.declared.message.Message.TheVariants.{Start, Close}
 use Rattle.window.specs.Parts.{Heard, heard_of, signalled, office, no_office, slack, quota, in_coordinator, due, counted}
 use Rattle.window.specs.Turns.{State, at, with_lanes, tell, replies, coordinator_part, office_part, turn, signal_and_settle, accepted}
 use Rattle.window.proofs.After.{moved_record, whole, sumq, MovedOn, After, goes_on, ends, moves_on, Accepted, counts, signals}
@@ -103,7 +104,7 @@ module _ (i : ℕ) (s : State) (even : Even s) (less : i < s.books.setting.offic
       let followed = tell_fine s.books.setting.offices (96 + s.books.coordinator.step) ls (once_long s.lanes (2 * i) ∙ e.long) (λ n l. once_empty s.lanes (2 * i) (2 * n + 1) (e.down n l)) (λ n l. omega (arith, ap (λ (l : Lane). l.sent) (once_down s.lanes i n), down_few n l)) in
       let all = followed.2 in
       let t = at b followed.0 in
-      let is : signalled i s.books ≡ heard_of b (Some (96 + s.books.coordinator.step)) = cond-true _ _ _ (eq-eqb _ _ full) ∙ cond-false _ _ _ (le-ltb _ _ last) in
+      let is : signalled i s.books ≡ heard_of b (Some (Close s.books.coordinator.step)) = cond-true _ _ _ (eq-eqb _ _ full) ∙ cond-false _ _ _ (le-ltb _ _ last) in
       let long : length followed.0 ≡ 2 * s.books.setting.offices = all.long ∙ once_long s.lanes (2 * i) ∙ e.long in
       let up : (n : ℕ) → n < s.books.setting.offices → (lane followed.0 (2 * n)).waiting ≡ [] = λ n l. ap (λ (l : Lane). l.waiting) (all.up n) ∙ once_empty s.lanes (2 * i) (2 * n) (e.up n l) in
       let shut = close_part s.books.setting.offices s.books.coordinator.step t small long (λ n l. ap (λ (l : Lane). l.waiting) (all.down n l)) in
@@ -181,7 +182,7 @@ module _ (i : ℕ) (s : State) (even : Even s) (less : i < s.books.setting.offic
       spoke : replies (signalled i s.books).reply (signalled i s.books).books (once s.lanes (2 * i)) ≡ fine (at next_books ls)
       unfolding signalled
       spoke =
-          let is : signalled i s.books ≡ heard_of next_books (Some (64 + (s.books.coordinator.step + 1))) = cond-true _ _ _ (eq-eqb _ _ full) ∙ cond-true _ _ _ (lt-ltb _ _ more) in
+          let is : signalled i s.books ≡ heard_of next_books (Some (Start (s.books.coordinator.step + 1))) = cond-true _ _ _ (eq-eqb _ _ full) ∙ cond-true _ _ _ (lt-ltb _ _ more) in
           ap (λ (h : Heard). replies h.reply h.books (once s.lanes (2 * i))) is ∙ ap (with_lanes next_books) followed
 
       module _ (u : State) (moves : office_part s.books.setting.offices (at next_books ls) ≡ fine u) (mv : Moving (s.books.coordinator.step + 1) s.books.setting.offices (at next_books ls) u) where

@@ -6,7 +6,8 @@ use Rattle.post.specs.Lanes.{Lane, lane, room_answer, send_answer, sends, send, 
 use Rattle.post.specs.Outs.{Out, out}
 use Rattle.window.specs.Sequences.{go_on, then, each}
 use Rattle.window.specs.declared.books.Books.{Books}
-use Rattle.window.specs.Parts.{heard, message, followed, office}
+use Rattle.window.specs.declared.message.Message.{Message}
+use Rattle.window.specs.Parts.{byte_of, heard, message, followed, office}
 use Rattle.window.specs.Turns.{State, at, with_each, drain, replies, hear, follow, coordinator_part, office_part, turn, Settled, calm, again, stops, Signals, refused, sent, Accepts, quiet, signalled_on}
 
 -- an answer, or a fault of the post
@@ -56,9 +57,9 @@ module _ (j : ℕ) (f : ℕ → State → Out State (Unit {0})) (p : (b : ℕ) (
   unfolding drain
   drain_posted s = out_posted (leb (length s.lanes) j) _ _ refl (with_each_posted (lane s.lanes j).waiting s)
 
-replies_posted : (o : Option ℕ) (b : Books) (ls : List Lane) → Posted (replies o b ls).answer
+replies_posted : (o : Option Message) (b : Books) (ls : List Lane) → Posted (replies o b ls).answer
 replies_posted None b ls = tt
-replies_posted (Some m) b ls = each_posted (λ i. send (2 * i + 1) m) (λ i ls. send_posted (2 * i + 1) m ls) b.setting.offices 0 ls
+replies_posted (Some m) b ls = each_posted (λ i. send (2 * i + 1) (byte_of m)) (λ i ls. send_posted (2 * i + 1) (byte_of m) ls) b.setting.offices 0 ls
 
 hear_posted : (i byte : ℕ) (s : State) → Posted (hear i byte s).answer
 unfolding hear

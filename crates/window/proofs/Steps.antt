@@ -1,5 +1,5 @@
 -- The steps of programs. Assumes nothing.
-use Rattle.std.proofs.Common.{◌≡◌, ℕ, suc, ◌+◌, ◌-◌, ◌<◌, ◌≤◌, IsErrAnd, Ok, Err, Result, sym, ap, ◌∙◌, arith}
+use Rattle.std.proofs.Common.{◌≡◌, ℕ, suc, ◌+◌, ◌-◌, ◌<◌, ◌≤◌, IsErrAnd, Ok, Err, Result, sym, refl, ap, ◌∙◌, arith}
 use Rattle.fault.specs.declared.Fault.{Fault}
 use Rattle.std.proofs.lemmas.Result.{err_from_is_err_and}
 use Rattle.post.specs.Outs.{Out, out}
@@ -31,6 +31,15 @@ each_done f k i s more = let e : 0 ≡ k - i = omega arith in ap (λ n. each n i
 
 pub each_none : {S : Type 0} (f : ℕ → S → Out S (Unit {0})) (k : ℕ) (s : S) → each (k - 0) 0 f s ≡ each k 0 f s
 each_none f k s = let e : k - 0 ≡ k = omega arith in ap (λ n. each n 0 f s) e
+
+-- one part alone
+passes : {S : Type 0} (s : S) (r : Result (Unit {0}) Fault) → go_on r s (λ t _. fine t) ≡ out s r
+passes s (Ok u) = refl
+passes s (Err e) = refl
+
+pub each_one : {S : Type 0} (f : ℕ → S → Out S (Unit {0})) (s : S) → each 1 0 f s ≡ f 0 s
+unfolding each then
+each_one f s = passes (f 0 s).state (f 0 s).answer
 
 -- what `?` returns is the fault as it came
 pub passed : {S T : Type 0} {s : S} {q : Result T Fault} {e : Fault} {m : Out S T} → IsErrAnd q (λ y. y ≡ e) → out s (Err e) ≡ m → out s q ≡ m

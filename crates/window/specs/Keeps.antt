@@ -7,7 +7,8 @@ use Rattle.post.specs.Lanes.{Lane, no_lane, send, sends, send_answer, joined}
 use Rattle.post.specs.Outs.{Out}
 use Rattle.window.specs.Sequences.{go_on, then, each}
 use Rattle.window.specs.declared.books.Books.{Books}
-use Rattle.window.specs.Parts.{heard, message, followed, office}
+use Rattle.window.specs.declared.message.Message.{Message}
+use Rattle.window.specs.Parts.{byte_of, heard, message, followed, office}
 use Rattle.window.specs.Turns.{State, Holds, tell, replies, hear, signal, follow}
 
 -- what every part keeps, all of them keep
@@ -42,9 +43,9 @@ pub hear_holds : (i byte : ℕ) (s : State) → Holds (2 * i) s.lanes (hear i by
 unfolding hear
 hear_holds i byte s = on (heard i (message byte) s.books).reply (heard i (message byte) s.books).books
   where
-    on : (o : Option ℕ) (b : Books) → Holds (2 * i) s.lanes (replies o b s.lanes).state.lanes
+    on : (o : Option Message) (b : Books) → Holds (2 * i) s.lanes (replies o b s.lanes).state.lanes
     on None b = record { long = refl; same = refl }
-    on (Some m) b = tell_holds i b.setting.offices m s.lanes
+    on (Some m) b = tell_holds i b.setting.offices (byte_of m) s.lanes
 
 signal_holds : (i step n : ℕ) (ls : List Lane) → Holds (2 * i + 1) ls (signal i step n ls).state
 signal_holds i step n ls =

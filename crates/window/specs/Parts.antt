@@ -6,12 +6,18 @@ use Rattle.window.specs.declared.books.OfficeRecord.{OfficeRecord}
 use Rattle.window.specs.declared.books.Books.{Books}
 use Rattle.window.specs.declared.books.Phase.{Phase}
 use Rattle.window.specs.declared.books.Phase.TheVariants.{Open, Closed}
-use Rattle.window.specs.declared.books.Message.{Message}
-use Rattle.window.specs.declared.books.Message.TheVariants.{Signal, Start, Close, Other}
+use Rattle.window.specs.declared.message.Message.{Message}
+use Rattle.window.specs.declared.message.Message.TheVariants.{Signal, Start, Close}
 
--- What a byte says: its kind is the byte over 32, its step what is left.
-abbrev pub message : ℕ → Message
-message b = cond (b / 32 == 1) (Signal (b % 32)) (cond (b / 32 == 2) (Start (b % 32)) (cond (b / 32 == 3) (Close (b % 32)) Other))
+-- What a byte says, if anything: its kind is the byte over 32, its step what is left.
+abbrev pub message : ℕ → Option Message
+message b = cond (b / 32 == 1) (Some (Signal (b % 32))) (cond (b / 32 == 2) (Some (Start (b % 32))) (cond (b / 32 == 3) (Some (Close (b % 32))) None))
+
+-- The byte of a message.
+abbrev pub byte_of : Message → ℕ
+byte_of (Signal j) = 32 + j
+byte_of (Start j) = 64 + j
+byte_of (Close j) = 96 + j
 
 -- The coordinator's step, open or closed.
 abbrev pub phase : Coordinator → Phase
@@ -38,9 +44,9 @@ Paid t h o = o.credit + t.offices * slack t (h.step - 1) ≤ t.offices * slack t
 -- The books once the coordinator has heard a message, and what it tells all offices, if anything.
 pub record Heard : Type 0 where
   pub books : Books
-  pub reply : Option ℕ
+  pub reply : Option Message
 
-abbrev pub heard_of : Books → Option ℕ → Heard
+abbrev pub heard_of : Books → Option Message → Heard
 heard_of b r = record { books = b; reply = r }
 
 -- The table with one slack more in the credit of office i.
@@ -55,16 +61,16 @@ unfoldable pub signalled : ℕ → Books → Heard
 signalled i b =
     cond (b.coordinator.signals + 1 == quota b.setting b.coordinator.step)
     (cond (nat_lt b.coordinator.step b.setting.steps)
-    (heard_of (in_coordinator b i (record { step = b.coordinator.step + 1; signals = 0; closed = false })) (Some (64 + (b.coordinator.step + 1))))
-    (heard_of (in_coordinator b i (record { step = b.coordinator.step; signals = b.coordinator.signals + 1; closed = true })) (Some (96 + b.coordinator.step))))
+    (heard_of (in_coordinator b i (record { step = b.coordinator.step + 1; signals = 0; closed = false })) (Some (Start (b.coordinator.step + 1))))
+    (heard_of (in_coordinator b i (record { step = b.coordinator.step; signals = b.coordinator.signals + 1; closed = true })) (Some (Close b.coordinator.step))))
     (heard_of (in_coordinator b i (record { step = b.coordinator.step; signals = b.coordinator.signals + 1; closed = false })) None)
 
 -- Anything but a signal of the step that is open is passed over.
-abbrev pub heard : ℕ → Message → Books → Heard
-heard i (Signal j) b = cond b.coordinator.closed (heard_of b None) (cond (j == b.coordinator.step) (signalled i b) (heard_of b None))
-heard i (Start j) b = heard_of b None
-heard i (Close j) b = heard_of b None
-heard i Other b = heard_of b None
+abbrev pub heard : ℕ → Option Message → Books → Heard
+heard i (Some (Signal j)) b = cond b.coordinator.closed (heard_of b None) (cond (j == b.coordinator.step) (signalled i b) (heard_of b None))
+heard i (Some (Start j)) b = heard_of b None
+heard i (Some (Close j)) b = heard_of b None
+heard i None b = heard_of b None
 
 -- The books once an office has followed a message, and how many signals it owes.
 pub record Followed : Type 0 where
@@ -85,11 +91,11 @@ moved i b =
     ((office b i).remainder / slack b.setting ((office b i).step + 1))
 
 -- Anything but the start of the office's next step is passed over.
-abbrev pub followed : ℕ → Message → Books → Followed
-followed i (Start j) b = cond (j == (office b i).step + 1) (cond (nat_le j b.setting.steps) (moved i b) (followed_of b 0)) (followed_of b 0)
-followed i (Signal j) b = followed_of b 0
-followed i (Close j) b = followed_of b 0
-followed i Other b = followed_of b 0
+abbrev pub followed : ℕ → Option Message → Books → Followed
+followed i (Some (Start j)) b = cond (j == (office b i).step + 1) (cond (nat_le j b.setting.steps) (moved i b) (followed_of b 0)) (followed_of b 0)
+followed i (Some (Signal j)) b = followed_of b 0
+followed i (Some (Close j)) b = followed_of b 0
+followed i None b = followed_of b 0
 
 -- A lot at office i: whether its remainder fills a slack.
 abbrev pub due : ℕ → Books → Bool

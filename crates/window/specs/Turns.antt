@@ -8,7 +8,9 @@ use Rattle.post.specs.Lanes.{Lane, lane, lane_fault, send, taken}
 use Rattle.post.specs.Outs.{Out, out}
 use Rattle.window.specs.Sequences.{fine, then, each}
 use Rattle.window.specs.declared.books.Books.{Books}
-use Rattle.window.specs.Parts.{heard, message, Followed, followed, office, due, counted}
+use Rattle.window.specs.declared.message.Message.{Message}
+use Rattle.window.specs.declared.message.Message.TheVariants.{Signal}
+use Rattle.window.specs.Parts.{heard, message, byte_of, Followed, followed, office, due, counted}
 
 -- all that a window holds
 pub record State : Type 0 where
@@ -43,9 +45,9 @@ abbrev pub part : (way : ℕ → ℕ) → (f : ℕ → ℕ → State → Out Sta
 part way f k s = each k 0 (λ i. drain (way i) (f i)) s
 
 -- the coordinator has taken a byte of office i
-abbrev pub replies : Option ℕ → Books → List Lane → Out State (Unit {0})
+abbrev pub replies : Option Message → Books → List Lane → Out State (Unit {0})
 replies None b ls = fine (at b ls)
-replies (Some m) b ls = with_lanes b (tell b.setting.offices m ls)
+replies (Some m) b ls = with_lanes b (tell b.setting.offices (byte_of m) ls)
 
 unfoldable pub hear : ℕ → ℕ → State → Out State (Unit {0})
 hear i byte s = replies (heard i (message byte) s.books).reply (heard i (message byte) s.books).books s.lanes
@@ -56,7 +58,7 @@ coordinator_part k s = part (λ i. 2 * i) hear k s
 
 -- n signals of a step from office i
 abbrev pub signal : ℕ → ℕ → ℕ → List Lane → Out (List Lane) (Unit {0})
-signal i step n ls = each n 0 (λ _. send (2 * i) (32 + step)) ls
+signal i step n ls = each n 0 (λ _. send (2 * i) (byte_of (Signal step))) ls
 
 -- office i has taken a byte
 abbrev pub answers : ℕ → Followed → List Lane → Out State (Unit {0})
@@ -94,12 +96,12 @@ settle s = then (turn s) (λ t _. turn t)
 
 -- office i sends a signal, and turns follow
 unfoldable pub signal_and_settle : ℕ → State → Out State (Unit {0})
-signal_and_settle i s = then (with_lanes s.books (send (2 * i) (32 + (office s.books i).step) s.lanes)) (λ t _. settle t)
+signal_and_settle i s = then (with_lanes s.books (send (2 * i) (byte_of (Signal (office s.books i).step)) s.lanes)) (λ t _. settle t)
 
 -- office i sends a signal, and turns follow until no lane holds anything
 pub data Signals (i : ℕ) (s : State) : Out State (Unit {0}) → Type 0 where
-  refused : {t : State} {e : Fault} → out t (Err e) ≡ with_lanes s.books (send (2 * i) (32 + (office s.books i).step) s.lanes) → Signals i s (out t (Err e))
-  sent : {t : State} {o : Out State (Unit {0})} → fine t ≡ with_lanes s.books (send (2 * i) (32 + (office s.books i).step) s.lanes) → Settled t o → Signals i s o
+  refused : {t : State} {e : Fault} → out t (Err e) ≡ with_lanes s.books (send (2 * i) (byte_of (Signal (office s.books i).step)) s.lanes) → Signals i s (out t (Err e))
+  sent : {t : State} {o : Out State (Unit {0})} → fine t ≡ with_lanes s.books (send (2 * i) (byte_of (Signal (office s.books i).step)) s.lanes) → Settled t o → Signals i s o
 
 -- an accepted lot, by two turns
 abbrev pub accepted : ℕ → State → Out State (Unit {0})

@@ -29,12 +29,3 @@ pub enum Phase {
     Open(u32),
     Closed(u32),
 }
-
-// What a byte on a lane says, with the step that it names.
-#[derive(Clone, Copy)]
-pub enum Message {
-    Signal(u32),
-    Start(u32),
-    Close(u32),
-    Other,
-}

@@ -1,16 +1,10 @@
 // The books with what always holds of them: how the coordinator and the offices change their records.
-ghost use Rattle.std.specs.Prelude.{◌≡◌, ℕ, ◌+◌, ◌-◌, ◌*◌, ◌/◌, ◌%◌, ◌^◌, ◌<◌, ◌≤◌, true, false, length, Some, None, ◌==◌};
-ghost use Rattle.window.specs.Parts.{message as message_of, phase, heard, heard_of, signalled, quota, slack, office, Paid, followed, followed_of, moved, due, counted};
+ghost use Rattle.std.specs.Prelude.{◌≡◌, ℕ, ◌+◌, ◌-◌, ◌*◌, ◌/◌, ◌%◌, ◌^◌, ◌<◌, ◌≤◌, true, false, length, Some, None, IfSome, ◌==◌};
+ghost use Rattle.window.specs.Parts.{phase, heard, heard_of, byte_of, signalled, quota, slack, office, Paid, followed, followed_of, moved, due, counted};
 
-use crate::books::{Books, Coordinator, Message, OfficeRecord, Phase};
+use crate::books::{Books, Coordinator, OfficeRecord, Phase};
+use crate::message::Message;
 use crate::place::Place;
-
-// A message is one byte: 32 times its kind, and its step. A signal is of kind 1.
-pub const SIGNAL: u32 = 32;
-
-const START: u32 = 64;
-
-const CLOSE: u32 = 96;
 
 #[derive(Clone, Copy)]
 pub struct CheckedBooks {
@@ -26,18 +20,6 @@ pub struct CheckedBooks {
     ghost within: { (i : ℕ) → i < 64 → (office books i).step ≤ books.setting.steps },
     ghost left: { (i : ℕ) → i < 64 → (office books i).remainder < slack books.setting (office books i).step },
     ghost paid: { (i : ℕ) → i < 64 → Paid books.setting books.coordinator (office books i) },
-}
-
-pub fn read_message(byte: u8) -> Message
-    ensures { result ≡ message_of byte }
-{
-    let step = u32::from(byte % 32);
-    match byte / 32 {
-        1 => Message::Signal(step),
-        2 => Message::Start(step),
-        3 => Message::Close(step),
-        _ => Message::Other,
-    }
 }
 
 impl CheckedBooks {
@@ -88,11 +70,12 @@ impl CheckedBooks {
         };
     }
 
-    // The signal that finishes the step: below the last step the next one starts, at the last the window closes. Gives the byte that all offices are told.
-    fn finish_step(&mut self, place: Place) -> u8
+    // The signal that finishes the step: below the last step the next one starts, at the last the window closes. Gives the message that all offices are told.
+    fn finish_step(&mut self, place: Place) -> Message
         requires going { self.old.books.coordinator.closed ≡ false }
         requires full { (self.old.books.coordinator.signals + 1 == quota self.old.books.setting self.old.books.coordinator.step) ≡ true }
-        ensures { heard_of self.new.books (Some result) ≡ signalled place.index self.old.books }
+        ensures did { heard_of self.new.books (Some result) ≡ signalled place.index self.old.books }
+        ensures fits { byte_of result < 2 ^ 8 }
     {
         let Coordinator {
             step,
@@ -106,28 +89,29 @@ impl CheckedBooks {
                 signals: 0,
                 closed: false,
             };
-            return (START + (step + 1)) as u8;
+            return Message::Start(step + 1);
         }
         self.books.coordinator = Coordinator {
             step,
             signals: signals + 1,
             closed: true,
         };
-        (CLOSE + step) as u8
+        Message::Close(step)
     }
 
     // The coordinator hears a message from the office at the place, and gives what it then tells all offices, if anything.
-    pub fn hear(&mut self, place: Place, message: Message) -> Option<u8>
-        ensures { heard_of self.new.books result ≡ heard place.index message self.old.books }
+    pub fn hear(&mut self, place: Place, message: Option<Message>) -> Option<Message>
+        ensures did { heard_of self.new.books result ≡ heard place.index message self.old.books }
+        ensures fits { IfSome result (λ m. byte_of m < 2 ^ 8) }
     {
         match (self.phase(), message, self.one_more_is_full()) {
-            (Phase::Open(step), Message::Signal(of), false) if of == step => {
+            (Phase::Open(step), Some(Message::Signal(of)), false) if of == step => {
                 self.count_signal(place);
                 None
             }
-            (Phase::Open(step), Message::Signal(of), true) if of == step => Some(self.finish_step(
-                place,
-            )),
+            (Phase::Open(step), Some(Message::Signal(of)), true) if of == step => Some(
+                self.finish_step(place),
+            ),
             _ => None,
         }
     }
@@ -152,11 +136,11 @@ impl CheckedBooks {
     }
 
     // The office at the place follows a message, and gives the number of signals that it owes.
-    pub fn follow(&mut self, place: Place, message: Message) -> u32
+    pub fn follow(&mut self, place: Place, message: Option<Message>) -> u32
         ensures { followed_of self.new.books result ≡ followed place.index message self.old.books }
     {
         match message {
-            Message::Start(j)
+            Some(Message::Start(j))
                 if j == self.record(place).step + 1 && j <= self.books.setting.steps =>
                 self.advance(place),
             _ => 0,

@@ -6,6 +6,7 @@ mod calls;
 mod checked_books;
 mod comparing;
 mod faults;
+mod message;
 mod opening;
 mod place;
 mod setting_table;

@@ -6,7 +6,6 @@ ghost use Rattle.window.specs.Turns.{Busy, Calm, Settled, Signals};
 ghost use Rattle.window.specs.Windows.{state_of, Kept};
 
 use crate::Window;
-use crate::checked_books::SIGNAL;
 use crate::place::Place;
 use fault::Fault;
 use post::Post;
@@ -52,10 +51,7 @@ impl<P: Post> Window<P> {
         ensures kept { Kept P.Post.became self.old self.new }
         ensures did { Signals place.index (state_of P.Post.lanes self.old) (out (state_of P.Post.lanes self.new) result) }
     {
-        self.post.send(
-            place.lane_up(),
-            (SIGNAL + self.checked.record(place).step) as u8,
-        )?;
+        self.signal(place, 1)?;
         self.settle()
     }
 }

@@ -6,7 +6,7 @@ ghost use Rattle.window.specs.Turns.{with_lanes, tell as tell_lanes, drain, part
 ghost use Rattle.window.specs.Windows.{state_of, Kept};
 
 use crate::Window;
-use crate::checked_books::SIGNAL;
+use crate::message::Message;
 use crate::place::Place;
 use crate::ways::{Down, Up, Way};
 use fault::Fault;
@@ -30,7 +30,7 @@ impl<P: Post> Window<P> {
         ensures kept { Kept P.became self.old self.new }
         ensures did { out (state_of P.lanes self.new) result ≡ with_lanes self.old.checked.books (signal_lanes place.index (office self.old.checked.books place.index).step count (P.lanes self.old.post)) }
     {
-        let byte = (SIGNAL + self.checked.record(place).step) as u8;
+        let byte = Message::Signal(self.checked.record(place).step).to_byte();
         for _t in 0..count {
             self.post.send(place.lane_up(), byte)?;
         }

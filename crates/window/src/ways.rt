@@ -6,7 +6,7 @@ ghost use Rattle.window.specs.Keeps.{hear_holds, follow_holds};
 ghost use Rattle.window.specs.Windows.{state_of, Kept};
 
 use crate::Window;
-use crate::checked_books::read_message;
+use crate::message::Message;
 use crate::place::Place;
 use fault::Fault;
 use post::Post;
@@ -44,8 +44,8 @@ impl Way for Up {
     }
 
     fn arrive<P: Post>(window: &mut Window<P>, place: Place, byte: u8) -> Result<(), Fault> {
-        match window.checked.hear(place, read_message(byte)) {
-            Some(reply) => window.tell(reply),
+        match window.checked.hear(place, Message::try_from(byte).ok()) {
+            Some(reply) => window.tell(reply.to_byte()),
             None => Ok(()),
         }
     }
@@ -66,7 +66,7 @@ impl Way for Down {
     }
 
     fn arrive<P: Post>(window: &mut Window<P>, place: Place, byte: u8) -> Result<(), Fault> {
-        let count = window.checked.follow(place, read_message(byte));
+        let count = window.checked.follow(place, Message::try_from(byte).ok());
         window.signal(place, count)
     }
 }

@@ -25,9 +25,9 @@ invariant_of-self c =
       paid = λ i l. (s.table i l).paid;
     }
 
-pub returns-then-step-self : goal.returns-then-step-self
+pub returns-then-step-self-clause-did : goal.returns-then-step-self-clause-did
 unfolding signalled
-returns-then-step-self c = sym (cond-true _ _ _ c.requires.full ∙ cond-true _ _ _ (lt-ltb _ _ c.if-step-self.true))
+returns-then-step-self-clause-did c = sym (cond-true _ _ _ c.requires.full ∙ cond-true _ _ _ (lt-ltb _ _ c.if-step-self.true))
 
 pub invariant_of-self-2 : goal.invariant_of-self-2
 invariant_of-self-2 c =
@@ -47,6 +47,6 @@ invariant_of-self-2 c =
       paid = λ i l. (s.table i l).paid;
     }
 
-pub returns : goal.returns
+pub returns-clause-did : goal.returns-clause-did
 unfolding signalled
-returns c = sym (cond-true _ _ _ c.requires.full ∙ cond-false _ _ _ (le-ltb _ _ c.if-step-self.false))
+returns-clause-did c = sym (cond-true _ _ _ c.requires.full ∙ cond-false _ _ _ (le-ltb _ _ c.if-step-self.false))
