@@ -94,42 +94,61 @@ module _ (d : CheckedBooks) where
       omega (arith, add-mul d.books.coordinator.signals 1 s, mul-le-mul_right s less, filled, d.paid i few, top)
 
 -- the ghost fields, as a check asks for them
-pub record Sound (b : Books) : Type 0 where
-  pub tall : length b.table ≡ 64
-  pub coordinator : Coordinator-law b.setting b.coordinator
-  pub table : (i : ℕ) → i < 64 → Record-law b.setting b.coordinator (office b i)
+abbrev pub Sound : Books → Type 0
+Sound b = record {
+  tall : length b.table ≡ 64;
+  from : 1 ≤ b.coordinator.step;
+  to : b.coordinator.step ≤ b.setting.steps;
+  few : b.coordinator.signals ≤ quota b.setting b.coordinator.step;
+  going : b.coordinator.closed ≡ false → b.coordinator.signals < quota b.setting b.coordinator.step;
+  over : b.coordinator.closed ≡ true → b.coordinator.signals ≡ quota b.setting b.coordinator.step;
+  last : b.coordinator.closed ≡ true → b.coordinator.step ≡ b.setting.steps;
+  begun : (i : ℕ) → i < 64 → 1 ≤ (office b i).step;
+  within : (i : ℕ) → i < 64 → (office b i).step ≤ b.setting.steps;
+  left : (i : ℕ) → i < 64 → (office b i).remainder < slack b.setting (office b i).step;
+  paid : (i : ℕ) → i < 64 → Paid b.setting b.coordinator (office b i);
+}
+
+sound : (b : Books) → length b.table ≡ 64 → Coordinator-law b.setting b.coordinator → ((i : ℕ) → i < 64 → Record-law b.setting b.coordinator (office b i)) → Sound b
+sound b tall h table = record {
+  tall = tall;
+  from = h.from;
+  to = h.to;
+  few = h.few;
+  going = h.going;
+  over = h.over;
+  last = h.last;
+  begun = λ i l. (table i l).from;
+  within = λ i l. (table i l).to;
+  left = λ i l. (table i l).left;
+  paid = λ i l. (table i l).paid;
+}
 
 module _ (d : CheckedBooks) (i : ℕ) (few : i < 64) where
-  pub sound_signal : (d.books.coordinator.signals + 1 ≡ quota d.books.setting d.books.coordinator.step → ⊥) → d.books.coordinator.closed ≡ false → Sound (in_coordinator d.books i (record { step = d.books.coordinator.step; signals = d.books.coordinator.signals + 1; closed = false }))
+  pub sound_signal : (d.books.coordinator.signals + 1 ≡ quota d.books.setting d.books.coordinator.step → ⊥) → d.books.coordinator.closed ≡ false → Sound (in_coordinator d.books i (record { step = d.books.coordinator.step; signals = d.books.coordinator.signals + 1; closed = d.books.coordinator.closed }))
   sound_signal not_full going =
       let less : d.books.coordinator.signals < quota d.books.setting d.books.coordinator.step = d.going going in
-      record {
-        tall = length-set d.books.table i _ ∙ d.tall;
-        coordinator = record { from = d.from; to = d.to; few = omega arith; going = λ _. omega arith; over = λ e. absurd (false≢true e); last = λ e. absurd (false≢true e) };
-        table = in_coordinator_law d i few _ (gained_same d false);
-      }
+      sound _ (length-set d.books.table i _ ∙ d.tall)
+      (record { from = d.from; to = d.to; few = omega arith; going = λ _. omega arith; over = λ e. absurd (false≢true (sym going ∙ e)); last = λ e. absurd (false≢true (sym going ∙ e)) })
+      (in_coordinator_law d i few _ (gained_same d d.books.coordinator.closed))
 
   pub sound_next : d.books.coordinator.signals + 1 ≡ quota d.books.setting d.books.coordinator.step → d.books.coordinator.step < d.books.setting.steps → Sound (in_coordinator d.books i (record { step = d.books.coordinator.step + 1; signals = 0; closed = false }))
   sound_next full less =
       let some : 0 < quota d.books.setting (d.books.coordinator.step + 1) =
       mul-pos d.books.setting.some (let low = d.books.setting.low (d.books.coordinator.step + 1) (omega arith) (omega arith) in omega (arith, low)) in
-      record {
-        tall = length-set d.books.table i _ ∙ d.tall;
-        coordinator = record { from = omega arith; to = omega arith; few = omega arith; going = λ _. some; over = λ e. absurd (false≢true e); last = λ e. absurd (false≢true e) };
-        table = in_coordinator_law d i few _ (gained_next d full);
-      }
+      sound _ (length-set d.books.table i _ ∙ d.tall)
+      (record { from = omega arith; to = omega arith; few = omega arith; going = λ _. some; over = λ e. absurd (false≢true e); last = λ e. absurd (false≢true e) })
+      (in_coordinator_law d i few _ (gained_next d full))
 
   pub sound_close : d.books.coordinator.signals + 1 ≡ quota d.books.setting d.books.coordinator.step → d.books.setting.steps ≤ d.books.coordinator.step → Sound (in_coordinator d.books i (record { step = d.books.coordinator.step; signals = d.books.coordinator.signals + 1; closed = true }))
   sound_close full more =
-      record {
-        tall = length-set d.books.table i _ ∙ d.tall;
-        coordinator = record { from = d.from; to = d.to; few = omega arith; going = λ e. absurd (true≢false e); over = λ _. full; last = λ _. omega (arith, d.to) };
-        table = in_coordinator_law d i few _ (gained_same d true);
-      }
+      sound _ (length-set d.books.table i _ ∙ d.tall)
+      (record { from = d.from; to = d.to; few = omega arith; going = λ e. absurd (true≢false e); over = λ _. full; last = λ _. omega (arith, d.to) })
+      (in_coordinator_law d i few _ (gained_same d true))
 
   -- office i has a record that is lawful
   pub sound_office : (o : OfficeRecord) → Record-law d.books.setting d.books.coordinator o → Sound (in_office d.books i o)
-  sound_office o law = record { tall = length-set d.books.table i o ∙ d.tall; coordinator = coordinator_law d; table = written (Record-law d.books.setting d.books.coordinator) d.books.table i o law (record_law d) }
+  sound_office o law = sound _ (length-set d.books.table i o ∙ d.tall) (coordinator_law d) (written (Record-law d.books.setting d.books.coordinator) d.books.table i o law (record_law d))
 
   pub sound_move : (office d.books i).step < d.books.setting.steps → Sound (in_office d.books i (record { step = (office d.books i).step + 1; credit = (office d.books i).credit; remainder = (office d.books i).remainder % slack d.books.setting ((office d.books i).step + 1) }))
   sound_move less =
@@ -144,10 +163,8 @@ pub sound_opened : (t : SettingTable) → Sound (opened t)
 sound_opened t =
     let low = t.low 1 (lit≤ tt) t.least in
     let some : 0 < quota t 1 = mul-pos t.some (omega (arith, low)) in
-    record {
-      tall = refl;
-      coordinator = record { from = lit≤ tt; to = t.least; few = omega arith; going = λ _. some; over = λ e. absurd (false≢true e); last = λ e. absurd (false≢true e) };
-      table = λ i few.
-          subst (Record-law t (opened t).coordinator) (sym (get_or-replicate 64 i (record { step = 1; credit = 0; remainder = 0 }) no_office few))
-          (record { from = lit≤ tt; to = t.least; left = t.grain 1 t.least; paid = omega arith });
-    }
+    sound (opened t) refl
+    (record { from = lit≤ tt; to = t.least; few = omega arith; going = λ _. some; over = λ e. absurd (false≢true e); last = λ e. absurd (false≢true e) })
+    (λ i few.
+    subst (Record-law t (opened t).coordinator) (sym (get_or-replicate 64 i (record { step = 1; credit = 0; remainder = 0 }) no_office few))
+    (record { from = lit≤ tt; to = t.least; left = t.grain 1 t.least; paid = omega arith }))

@@ -57,17 +57,9 @@ impl CheckedBooks {
         requires more { (self.old.books.coordinator.signals + 1 == quota self.old.books.setting self.old.books.coordinator.step) ≡ false }
         ensures { heard_of self.new.books None ≡ signalled place.index self.old.books }
     {
-        let Coordinator {
-            step,
-            signals,
-            closed: _,
-        } = self.books.coordinator;
+        let step = self.books.coordinator.step;
         self.books.table[place.index as usize].credit += self.books.setting.slacks[step as usize];
-        self.books.coordinator = Coordinator {
-            step,
-            signals: signals + 1,
-            closed: false,
-        };
+        self.books.coordinator.signals += 1;
     }
 
     // The signal that finishes the step: below the last step the next one starts, at the last the window closes. Gives the message that all offices are told.
@@ -77,11 +69,7 @@ impl CheckedBooks {
         ensures did { heard_of self.new.books (Some result) ≡ signalled place.index self.old.books }
         ensures fits { byte_of result < 2 ^ 8 }
     {
-        let Coordinator {
-            step,
-            signals,
-            closed: _,
-        } = self.books.coordinator;
+        let step = self.books.coordinator.step;
         self.books.table[place.index as usize].credit += self.books.setting.slacks[step as usize];
         if step < self.books.setting.steps {
             self.books.coordinator = Coordinator {
@@ -91,11 +79,8 @@ impl CheckedBooks {
             };
             return Message::Start(step + 1);
         }
-        self.books.coordinator = Coordinator {
-            step,
-            signals: signals + 1,
-            closed: true,
-        };
+        self.books.coordinator.signals += 1;
+        self.books.coordinator.closed = true;
         Message::Close(step)
     }
 
@@ -121,18 +106,12 @@ impl CheckedBooks {
         requires { (office self.old.books place.index).step < self.old.books.setting.steps }
         ensures { followed_of self.new.books result ≡ moved place.index self.old.books }
     {
-        let OfficeRecord {
-            step,
-            credit,
-            remainder,
-        } = self.books.table[place.index as usize];
-        let slack = self.books.setting.slacks[step as usize + 1];
-        self.books.table[place.index as usize] = OfficeRecord {
-            step: step + 1,
-            credit,
-            remainder: remainder % slack,
-        };
-        remainder / slack
+        let office = &mut self.books.table[place.index as usize];
+        let slack = self.books.setting.slacks[office.step as usize + 1];
+        let count = office.remainder / slack;
+        office.step += 1;
+        office.remainder %= slack;
+        count
     }
 
     // The office at the place follows a message, and gives the number of signals that it owes.
@@ -152,19 +131,10 @@ impl CheckedBooks {
         ensures due { result ≡ due place.index self.old.books }
         ensures counted { self.new.books ≡ counted place.index self.old.books }
     {
-        let OfficeRecord {
-            step,
-            credit,
-            remainder,
-        } = self.books.table[place.index as usize];
-        let slack = self.books.setting.slacks[step as usize];
-        let full = remainder + 1 == slack;
-        let remainder = if full { 0 } else { remainder + 1 };
-        self.books.table[place.index as usize] = OfficeRecord {
-            step,
-            credit,
-            remainder,
-        };
+        let office = &mut self.books.table[place.index as usize];
+        let slack = self.books.setting.slacks[office.step as usize];
+        let full = office.remainder + 1 == slack;
+        office.remainder = if full { 0 } else { office.remainder + 1 };
         full
     }
 }

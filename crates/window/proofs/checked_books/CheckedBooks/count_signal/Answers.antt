@@ -1,6 +1,6 @@
-use Rattle.std.proofs.Common.{sym, arith}
+use Rattle.std.proofs.Common.{◌+◌, None, sym, ap, ◌∙◌, arith}
 use Rattle.std.proofs.lemmas.Bool.{cond-false, eqb-false}
-use Rattle.window.specs.Parts.{signalled}
+use Rattle.window.specs.Parts.{heard_of, in_coordinator, signalled}
 use Rattle.window.proofs.Sound.{credit_fits, sound_signal}
 use Rattle.window.proofs.checked_books.CheckedBooks.count_signal.Goals as goal
 
@@ -9,22 +9,11 @@ overflow_add-self c = omega (arith, credit_fits c.args.self.now c.args.place.ind
 
 pub invariant_of-self : goal.invariant_of-self
 invariant_of-self c =
-    let s = sound_signal c.args.self.now c.args.place.index c.args.place.within (eqb-false _ _ c.requires.more) c.requires.going in
-    let h = s.coordinator in
-    record {
-      tall = s.tall;
-      from = h.from;
-      to = h.to;
-      few = h.few;
-      going = h.going;
-      over = h.over;
-      last = h.last;
-      begun = λ i l. (s.table i l).from;
-      within = λ i l. (s.table i l).to;
-      left = λ i l. (s.table i l).left;
-      paid = λ i l. (s.table i l).paid;
-    }
+    sound_signal c.args.self.now c.args.place.index c.args.place.within (eqb-false _ _ c.requires.more) c.requires.going
 
 pub returns : goal.returns
 unfolding signalled
-returns c = sym (cond-false _ _ _ c.requires.more)
+returns c =
+    let b = c.args.self.now.books in
+    let h = b.coordinator in
+    ap (λ o. heard_of (in_coordinator b c.args.place.index (record { step = h.step; signals = h.signals + 1; closed = o })) None) c.requires.going ∙ sym (cond-false _ _ _ c.requires.more)

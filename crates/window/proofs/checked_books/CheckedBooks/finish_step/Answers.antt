@@ -9,21 +9,7 @@ overflow_add-self c = omega (arith, credit_fits c.args.self.now c.args.place.ind
 
 pub invariant_of-self : goal.invariant_of-self
 invariant_of-self c =
-    let s = sound_next c.args.self.now c.args.place.index c.args.place.within (eqb-true _ _ c.requires.full) c.if-step-self.true in
-    let h = s.coordinator in
-    record {
-      tall = s.tall;
-      from = h.from;
-      to = h.to;
-      few = h.few;
-      going = h.going;
-      over = h.over;
-      last = h.last;
-      begun = λ i l. (s.table i l).from;
-      within = λ i l. (s.table i l).to;
-      left = λ i l. (s.table i l).left;
-      paid = λ i l. (s.table i l).paid;
-    }
+    sound_next c.args.self.now c.args.place.index c.args.place.within (eqb-true _ _ c.requires.full) c.if-step-self.true
 
 pub returns-then-step-self-clause-did : goal.returns-then-step-self-clause-did
 unfolding signalled
@@ -31,21 +17,7 @@ returns-then-step-self-clause-did c = sym (cond-true _ _ _ c.requires.full ∙ c
 
 pub invariant_of-self-2 : goal.invariant_of-self-2
 invariant_of-self-2 c =
-    let s = sound_close c.args.self.now c.args.place.index c.args.place.within (eqb-true _ _ c.requires.full) c.if-step-self.false in
-    let h = s.coordinator in
-    record {
-      tall = s.tall;
-      from = h.from;
-      to = h.to;
-      few = h.few;
-      going = h.going;
-      over = h.over;
-      last = h.last;
-      begun = λ i l. (s.table i l).from;
-      within = λ i l. (s.table i l).to;
-      left = λ i l. (s.table i l).left;
-      paid = λ i l. (s.table i l).paid;
-    }
+    sound_close c.args.self.now c.args.place.index c.args.place.within (eqb-true _ _ c.requires.full) c.if-step-self.false
 
 pub returns-clause-did : goal.returns-clause-did
 unfolding signalled
