@@ -1,7 +1,7 @@
 // What a window writes down: the coordinator's record and the table of the offices' records.
 use crate::setting_table::SettingTable;
 
-#[derive(Clone, Copy)]
+#[derive(Clone, Copy, PartialEq, Eq)]
 pub struct Coordinator {
     pub step: u32,
     pub signals: u32,

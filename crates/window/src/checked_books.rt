@@ -1,5 +1,5 @@
 // The books with what always holds of them: how the coordinator and the offices change their records.
-ghost use Rattle.std.specs.Prelude.{◌≡◌, ℕ, ◌+◌, ◌-◌, ◌*◌, ◌/◌, ◌%◌, ◌^◌, ◌<◌, ◌≤◌, true, false, length, Some, None, IfSome, ◌==◌};
+ghost use Rattle.std.specs.Prelude.{◌≡◌, ℕ, ◌+◌, ◌-◌, ◌*◌, ◌/◌, ◌%◌, ◌^◌, ◌<◌, ◌≤◌, true, false, length, take, Some, None, IfSome, ◌==◌};
 ghost use Rattle.window.specs.Parts.{phase, heard, heard_of, byte_of, signalled, quota, slack, office, Paid, followed, followed_of, moved, due, counted};
 
 use crate::books::{Books, Coordinator, OfficeRecord, Phase};
@@ -40,6 +40,13 @@ impl CheckedBooks {
         ensures { result ≡ office self.now.books place.index }
     {
         self.books.table[place.index as usize]
+    }
+
+    // The records of all offices.
+    pub fn records(&self) -> &[OfficeRecord]
+        ensures { result.now ≡ take self.now.books.setting.offices self.now.books.table }
+    {
+        &self.books.table[..self.books.setting.offices as usize]
     }
 
     // Whether one signal more reaches the quota of the coordinator's step.

@@ -1,28 +1,22 @@
 // Whether two windows have the same books, over whatever posts they count.
-ghost use Rattle.std.specs.Prelude.{◌≡◌, ℕ, ◌<◌, ◌≤◌, true, List, Decides};
+ghost use Rattle.std.specs.Prelude.{◌≡◌, ℕ, ◌<◌, ◌≤◌, true, List, length, slice_index_or, Decides};
 ghost use Rattle.rules.specs.Laws.{SameLots, OrderDoesNotMatter};
 ghost use Rattle.rules.specs.Runs.{Answer, accepted_at};
 ghost use Rattle.window.specs.Comparing.{SameFigures, SameHeads};
-ghost use Rattle.window.specs.Parts.{office};
+ghost use Rattle.window.specs.Parts.{no_office};
 ghost use Rattle.window.specs.Windows.{setting_of, state_of, books_of, SameSetting, Reached};
 
 use crate::Window;
-use crate::books::Books;
+use crate::books::OfficeRecord;
 use post::Post;
 
-// Whether the first k offices have equal credits and remainders.
-fn same_figures(first: &Books, second: &Books, k: u32) -> bool
-    requires { k ≤ 64 }
-    ensures { Decides result ((i : ℕ) → i < k → SameFigures (office first.now i) (office second.now i)) }
+// Whether equally many offices have equal credits and remainders.
+fn same_figures(first: &[OfficeRecord], second: &[OfficeRecord]) -> bool
+    requires { length first.now ≡ length second.now }
+    ensures { Decides result ((i : ℕ) → i < length first.now → SameFigures (slice_index_or first.now i no_office) (slice_index_or second.now i no_office)) }
 {
-    for i in 0..k {
-        let one = first.table[i as usize];
-        let other = second.table[i as usize];
-        if one.credit != other.credit || one.remainder != other.remainder {
-            return false;
-        }
-    }
-    true
+    first.iter().zip(second).all(|(one, other)| one.credit == other.credit
+        && one.remainder == other.remainder)
 }
 
 // Whether the figures that are not by office are equal, and the number of offices too.
@@ -30,9 +24,7 @@ fn same_heads<P: Post, Q: Post>(first: &Window<P>, second: &Window<Q>) -> bool
     ensures { Decides result (SameHeads (state_of P.Post.lanes first.now) (state_of Q.Post.lanes second.now)) }
 {
     first.office_count() == second.office_count()
-        && first.step() == second.step()
-        && first.signals() == second.signals()
-        && first.checked.books.coordinator.closed == second.checked.books.coordinator.closed
+        && first.checked.books.coordinator == second.checked.books.coordinator
         && first.messages().number() == second.messages().number()
 }
 
@@ -40,14 +32,7 @@ fn same_heads<P: Post, Q: Post>(first: &Window<P>, second: &Window<Q>) -> bool
 fn equal_books<P: Post, Q: Post>(first: &Window<P>, second: &Window<Q>) -> bool
     ensures { Decides result (books_of P.Post.lanes first.now ≡ books_of Q.Post.lanes second.now) }
 {
-    if !same_heads(first, second) {
-        return false;
-    }
-    same_figures(
-        &first.checked.books,
-        &second.checked.books,
-        first.office_count(),
-    )
+    same_heads(first, second) && same_figures(first.checked.records(), second.checked.records())
 }
 
 // Whether two windows have the same books: with equally many offices on the same ladder, exactly if each office had equally many lots accepted.

@@ -27,13 +27,7 @@ impl<P: Post> Window<P> {
         ensures yes { result ≡ true → Busy (state_of P.Post.lanes self.now) }
         ensures no { result ≡ false → Calm (state_of P.Post.lanes self.now) }
     {
-        for index in 0..self.checked.books.setting.offices {
-            let place = Place { index };
-            if holds_any(&self.post, place.lane_up()) || holds_any(&self.post, place.lane_down()) {
-                return true;
-            }
-        }
-        false
+        (0..2 * self.checked.books.setting.offices).any(|lane| holds_any(&self.post, lane))
     }
 
     fn settle(&mut self) -> Result<(), Fault>
