@@ -1,7 +1,10 @@
 -- What reading a ladder and asking a post about its lanes give. Assumes nothing.
-use Rattle.std.proofs.Common.{◌≡◌, ℕ, ◌+◌, ◌-◌, ◌*◌, ◌/◌, ◌<◌, ◌≤◌, Bool, true, false, cond, leb, ◌≢◌, List, [], length, get_or, set, Ok, Err, sym, refl, ap, ◌∙◌, arith, below_more}
+use Rattle.std.proofs.Common.{◌≡◌, ℕ, zero, suc, ◌+◌, ◌-◌, ◌*◌, ◌/◌, ◌<◌, ◌≤◌, Bool, true, false, cond, leb, ◌≢◌, List, [], length, get_or, set, Ok, Err, sym, refl, ap, ◌∙◌, subst, ⊎_elim, arith, below_more}
 use Rattle.std.proofs.lemmas.List.{get_or-set_same, get_or-set_other, length-set, get_or_past}
-use Rattle.std.proofs.lemmas.Bool.{leb-true}
+use Rattle.std.proofs.lemmas.Bool.{cases_eq, leb-true}
+use Rattle.std.specs.Array.{IsFromFnResultFrom}
+use Rattle.std.specs.Fn.{Called}
+use denote.Param.Members.{Mut}
 use Rattle.fault.specs.declared.Fault.{Fault}
 use Rattle.fault.specs.declared.Refusal.TheVariants.{NoSuchOfficeOrLane}
 use Rattle.ladder.specs.Laws.{LadderLaw, no_such_step, slack_answer}
@@ -83,3 +86,14 @@ none_on false ls j e eq = let z : ◌≡◌ {A = ℕ} 0 1 = cc in absurd (omega 
 
 pub none_waits : (ls : List Lane) (j : ℕ) (f : Fault) → Err f ≡ waiting_answer ls j → (lane ls j).waiting ≡ []
 none_waits ls j f eq = none_on (leb (length ls) j) ls j refl eq
+
+-- what calls of one closure gave, where a call leaves it as it is
+module _ {F B : Type 0} (g : Mut F (ℕ × Unit {0}) B) (f : F) (R : ℕ → B → Type 0) (gives : (i : ℕ) (y : B) (q : F) → Called g f (i, tt) y q → (q ≡ f) × R i y) where
+  pub each_given : (ys : List B) (d : B) (n i j : ℕ) → IsFromFnResultFrom g f ys i n → i ≤ j → j < i + n → R j (get_or ys j d)
+  each_given ys d zero i j r from to = absurd (omega arith)
+  each_given ys d (suc n) i j r from to =
+      let this = gives i r.1 r.0 r.3 in
+      ⊎_elim
+      (λ (e : j ≡ i). subst (λ i. R i (get_or ys i d)) (sym e) (subst (R i) (sym (r.2.1 d)) this.1))
+      (λ (other : j ≡ i → ⊥). each_given ys d n (i + 1) j (subst (λ q. IsFromFnResultFrom g q ys (i + 1) n) this.0 r.4) (omega arith) (omega arith))
+      (cases_eq j i)

@@ -28,7 +28,7 @@ impl<P: Post> Window<P> {
         ensures lawful { Unused (P.Post.lanes post) → LawfulBooks (setting_of result) [] [] (books_of P.Post.lanes result) }
     {
         let used = !is_unused(&post);
-        let checked = open_books(read_setting(post.office_count(), &ladder));
+        let checked = open_books(read_setting(&post, &ladder));
         Window {
             post,
             checked,

@@ -7,26 +7,19 @@ use crate::books::{Books, Coordinator, OfficeRecord};
 use crate::checked_books::CheckedBooks;
 use crate::setting_table::SettingTable;
 use ladder::Ladder;
+use post::Post;
+use std::array;
 
-// The slacks of all steps of a ladder.
-pub fn read_setting<L: Ladder>(offices: u32, ladder: &L) -> SettingTable
-    requires some { 1 ≤ offices }
-    requires few { offices ≤ 64 }
-    ensures offices { result.offices ≡ offices }
+// The number of offices of a post, and the slacks of all steps of a ladder.
+pub fn read_setting<P: Post, L: Ladder>(post: &P, ladder: &L) -> SettingTable
+    ensures offices { result.offices ≡ P.Post.offices post.now }
     ensures steps { result.steps ≡ L.Ladder.steps ladder.now }
     ensures slacks { (j : ℕ) → j ≤ result.steps → slack_of result j ≡ L.Ladder.slack ladder.now j }
 {
-    let steps = ladder.step_count();
-    let mut slacks = [0; 17];
-    for j in 0..steps + 1 {
-        if let Ok(slack) = ladder.slack_of(j) {
-            slacks[j as usize] = slack;
-        }
-    }
     SettingTable {
-        offices,
-        steps,
-        slacks,
+        offices: post.office_count(),
+        steps: ladder.step_count(),
+        slacks: array::from_fn(|step| ladder.slack_of(step as u32).unwrap_or(0)),
     }
 }
 
