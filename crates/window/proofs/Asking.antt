@@ -1,5 +1,5 @@
 -- What a question about an office finds. Assumes nothing.
-use Rattle.std.proofs.Common.{◌≡◌, ℕ, ◌-◌, ◌<◌, ◌≤◌, Bool, true, false, cond, ◌||◌, eqb, ltb, map, get_or, take, Ok, Err, sym, refl, ap, ◌∙◌, arith}
+use Rattle.std.proofs.Common.{◌≡◌, ℕ, ◌-◌, ◌≤◌, Bool, true, false, cond, ◌||◌, eqb, ltb, map, get_or, take, Ok, Err, sym, refl, ap, ◌∙◌, arith}
 use Rattle.std.proofs.lemmas.Bool.{or_parts, eqb-false, ltb-false, cond-false}
 use Rattle.fault.specs.declared.Fault.{Fault}
 use Rattle.window.specs.declared.books.Books.{Books}
@@ -23,11 +23,3 @@ asked_figure figure none b n p o e is =
     ap (λ o. Ok (figure o)) is ∙ ap (λ p. Ok (figure (office b p))) z.1
     ∙ (ap Ok (sym (figure_at figure none b.table b.setting.offices (n - 1) (omega arith)))
     ∙ sym (cond-false _ _ _ z.0))
-
-pub asked_place : (b : Books) (n p : ℕ) → Ok p ≡ asked n b (n - 1) → p < 64
-asked_place b n p e =
-    let z = place_so (eqb n 0 || ltb b.setting.offices n) n p _ e in
-    let parts = or_parts (eqb n 0) (ltb b.setting.offices n) z.0 in
-    let not-0 : n ≡ 0 → ⊥ = eqb-false n 0 parts.0 in
-    let most : n ≤ b.setting.offices = ltb-false _ _ parts.1 in
-    omega (arith, z.1, b.setting.few)

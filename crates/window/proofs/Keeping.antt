@@ -1,5 +1,5 @@
 -- What calls keep of a window, one after another. Assumes nothing.
-use Rattle.std.proofs.Common.{◌≡◌, ℕ, List, Option, Result, refl, ap, ◌∙◌}
+use Rattle.std.proofs.Common.{◌≡◌, ℕ, List, Option, Result, ap, ◌∙◌}
 use Rattle.fault.specs.declared.Fault.{Fault}
 use Rattle.post.specs.Lanes.{Lane, send, take}
 use Rattle.post.specs.Outs.{Out, out}
@@ -9,9 +9,6 @@ use Rattle.window.specs.Turns.{at, with_lanes}
 use Rattle.window.specs.Windows.{Kept}
 
 module _ {P : Type 0} (R : P → P → Type 0) where
-  pub kept_stays : ((p : P) → R p p) → (w : Window P) → Kept R w w
-  kept_stays stays w = record { became = stays w.post; used = refl }
-
   pub kept_joins : ((p q r : P) → R p q → R q r → R p r) → {a b c : Window P} → Kept R a b → Kept R b c → Kept R a c
   kept_joins joins {a} {b} {c} k l = record { became = joins a.post b.post c.post k.became l.became; used = l.used ∙ k.used }
 

@@ -44,18 +44,6 @@ record_by xs m n o less = ⊎_elim
     (λ (ne : n ≡ m → ⊥). get_or-set_other xs m n o no_office ne ∙ sym (cond-false _ _ _ (ne_eqb n m ne)))
     (cases_eq n m)
 
-cond_by : {X : Type 0} (n m : ℕ) (f : ℕ → X) (x y : X) → (n ≡ m → x ≡ f n) → ((n ≡ m → ⊥) → y ≡ f n) → cond (eqb n m) x y ≡ f n
-cond_by n m f x y p q = ⊎_elim
-    (λ (e : n ≡ m). cond-true _ _ _ (eq-eqb n m e) ∙ p e)
-    (λ (ne : n ≡ m → ⊥). cond-false _ _ _ (ne_eqb n m ne) ∙ q ne)
-    (cases_eq n m)
-
-one_yes : (n m : ℕ) → n ≡ m → one n m ≡ 1
-one_yes n m e = cond-true _ _ _ (eq-eqb n m e)
-
-one_no : (n m : ℕ) → (n ≡ m → ⊥) → one n m ≡ 0
-one_no n m ne = cond-false _ _ _ (ne_eqb n m ne)
-
 module _ (b : Books) (m : ℕ) (less : m < length b.table) where
   counted_credit : (n : ℕ) → (office (counted m b) n).credit ≡ (office b n).credit
   counted_credit n = ap (λ (o : OfficeRecord). o.credit) (record_by b.table m n _ less) ∙ go (eqb n m) (λ e. eqb-true n m e)

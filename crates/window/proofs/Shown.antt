@@ -85,10 +85,6 @@ own_terms t = record {
   divisors = divisor_in t;
 }
 
--- two tables with the same slacks
-pub same_setting : (l : Setting) (t : SettingTable) → l ≡ setting_in t → SameTerms l t
-same_setting l t e = subst (λ l. SameTerms l t) (sym e) (own_terms t)
-
 -- no account and no office has anything on its lane between two lots
 up_empty : (l : Setting) (j m : ℕ) {ps : List Account} {os : List Office} {ns : List ℕ} → Fit l j ps os ns → m < length ns → (get_or ps m no_account).up.waiting ≡ []
 up_empty l j m none i = absurd (omega arith)

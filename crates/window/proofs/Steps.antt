@@ -29,9 +29,6 @@ pub each_done : {S : Type 0} (f : ℕ → S → Out S (Unit {0})) (k i : ℕ) (s
 unfolding each
 each_done f k i s more = let e : 0 ≡ k - i = omega arith in ap (λ n. each n i f s) e
 
-pub each_none : {S : Type 0} (f : ℕ → S → Out S (Unit {0})) (k : ℕ) (s : S) → each (k - 0) 0 f s ≡ each k 0 f s
-each_none f k s = let e : k - 0 ≡ k = omega arith in ap (λ n. each n 0 f s) e
-
 -- one part alone
 passes : {S : Type 0} (s : S) (r : Result (Unit {0}) Fault) → go_on r s (λ t _. fine t) ≡ out s r
 passes s (Ok u) = refl

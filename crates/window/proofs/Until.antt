@@ -163,15 +163,6 @@ pub refused_next : (d : CheckedBooks) (ls : List Lane) (l : Setting) (h : List �
 refused_next d ls l h used n f re is =
     refused_so l h used (at d.books ls) n f _ _ _ (eqb n 0 || ltb d.books.setting.offices n) d.books.coordinator.closed re.fresh is (unknown_next l h used (at d.books ls) re n) (shut_next l h used (at d.books ls) re n)
 
--- the place is one of the table's
-pub place_few : (used : Bool) (n i : ℕ) (b : Books) → Ok i ≡ admitted used n b → i < 64
-place_few used n i b is =
-    let z = admitted_so used (eqb n 0 || ltb b.setting.offices n) b.coordinator.closed n i _ _ _ is in
-    let parts = or_parts (eqb n 0) (ltb b.setting.offices n) z.1 in
-    let not-0 : n ≡ 0 → ⊥ = eqb-false n 0 parts.0 in
-    let most : n ≤ b.setting.offices = ltb-false _ _ parts.1 in
-    omega (arith, z.3, b.setting.few)
-
 -- a window opened on an unused post
 pub opened_held : (l : Setting) (t : SettingTable) (ls : List Lane) (b : Books) (used : Bool) → SameTerms l t → b ≡ opened t → used ≡ false → Unused ls → Even (at b ls) → Held l [] used (at b ls)
 opened_held l t ls b used same is fresh unused even = record {

@@ -1,4 +1,4 @@
-use Rattle.std.proofs.Common.{◌≡◌, ℕ, ◌≤◌, get_or, sym, ◌∙◌, subst, arith, rules}
+use Rattle.std.proofs.Common.{◌≡◌, ℕ, ◌≤◌, get_or, sym, subst, arith, rules}
 use borrow.Author.Tests.{tests}
 use Rattle.ladder.specs.Laws.{LadderLaw}
 use Rattle.window.proofs.Opens.{each_given, read_laws}
