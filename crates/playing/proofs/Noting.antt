@@ -2,7 +2,6 @@
 use Rattle.std.proofs.Common.{◌≡◌, ℕ, suc, ◌+◌, ◌-◌, ◌≤◌, Bool, true, false, cond, not, ◌||◌, eqb, ltb, List, [], ◌∷◌, ◌++◌, length, take, is_ok, Some, None, Ok, Err, Option, sym, refl, ap, ◌∙◌, subst, ⊎_elim, arith}
 use Rattle.std.proofs.lemmas.List.{take-append-le, take_all, length_push}
 use Rattle.std.proofs.lemmas.Bool.{cases_Bool, true≢false, cond-true}
-use Rattle.fault.specs.Faults.{refusal_number}
 use Rattle.fault.specs.declared.Fault.{Fault}
 use Rattle.post.specs.Lanes.{Lane}
 use Rattle.rules.specs.Lists.{total}
@@ -14,7 +13,7 @@ use Rattle.window.specs.Turns.{admitted}
 use Rattle.window.specs.Windows.{setting_of, books_of, Reached}
 use Rattle.playing.specs.declared.day.Played.{Played}
 use Rattle.playing.specs.declared.tally.Tally.{Tally}
-use Rattle.playing.specs.Tallies.{late, noted}
+use Rattle.playing.specs.Tallies.{is_closed, late, counted, noted}
 use Rattle.playing.specs.Days.{ClosingLot, ClosedBy, DayAt}
 
 total_push : {X : Type 0} (f : X → ℕ) (xs : List X) (x : X) → total f (xs ++ x ∷ []) ≡ total f xs + f x
@@ -146,14 +145,10 @@ module _ {P : Type 0} (lanes : P → List Lane) (lots : List ℕ) (rs : List Ans
   day_next (Ok u) re going same = accepted_next re (going refl)
   day_next (Err f) re going same = refused_next f re (same f refl)
 
-pub noted_accepted : (a : Answer) (closed : Bool) (t : Tally) → (noted a closed t).accepted ≤ t.accepted + 1
-noted_accepted (Ok u) closed t = omega arith
-noted_accepted (Err f) closed t = omega arith
-
 late_few : (b : Bool) → cond b 1 0 ≤ 1
 late_few true = omega arith
 late_few false = omega arith
 
-pub noted_late : (a : Answer) (closed : Bool) (t : Tally) → (noted a closed t).late ≤ t.late + 1
-noted_late (Ok u) closed t = omega arith
-noted_late (Err f) closed t = omega (arith, late_few (eqb (refusal_number f.refusal) 2))
+pub noted_counted : (a : Answer) (closed : Bool) (t : Tally) → counted (noted a closed t) ≤ counted t + 1
+noted_counted (Ok u) closed t = omega arith
+noted_counted (Err f) closed t = omega (arith, late_few (is_closed f.refusal))

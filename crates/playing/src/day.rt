@@ -3,7 +3,7 @@ ghost use Rattle.std.specs.Prelude.{◌≡◌, ℕ, ◌+◌, ◌^◌, ◌<◌, �
 ghost use Rattle.post.specs.Lanes.{Unused};
 ghost use Rattle.rules.specs.Runs.{Answer};
 ghost use Rattle.window.specs.Windows.{setting_for, setting_of};
-ghost use Rattle.playing.specs.Tallies.{no_tally};
+ghost use Rattle.playing.specs.Tallies.{no_tally, counted};
 ghost use Rattle.playing.specs.Days.{DayAt, DayPlayed, NoDay};
 
 use crate::tally::Tally;
@@ -21,12 +21,10 @@ pub struct Played<P: Post> {
 impl<P: Post> Played<P> {
     // One lot more.
     fn next(&mut self, office: u32)
-        requires few { self.old.tally.accepted < 2 ^ 63 }
-        requires fewer { self.old.tally.late < 2 ^ 63 }
+        requires { counted self.old.tally < 2 ^ 63 }
         ensures became { P.Post.became self.old.window.post self.new.window.post }
         ensures setting { setting_of self.new.window ≡ setting_of self.old.window }
-        ensures accepted { self.new.tally.accepted ≤ self.old.tally.accepted + 1 }
-        ensures late { self.new.tally.late ≤ self.old.tally.late + 1 }
+        ensures counted { counted self.new.tally ≤ counted self.old.tally + 1 }
         ensures used { self.old.window.used ≡ true → self.new ≡ self.old }
         ensures day { (lots : List ℕ) (answers : List Answer) → DayAt P.Post.lanes lots answers self.old → (a : Answer) × DayAt P.Post.lanes (lots ++ office ∷ []) (answers ++ a ∷ []) self.new }
     {
@@ -57,11 +55,7 @@ pub fn play<P: Post, L: Ladder + Drop>(post: P, ladder: L, lots: &[u32]) -> Play
 {
     let mut played = Played {
         window: Window::open(post, ladder),
-        tally: Tally {
-            accepted: 0,
-            late: 0,
-            closing: None,
-        },
+        tally: Tally::default(),
     };
     played.play_all(lots);
     played

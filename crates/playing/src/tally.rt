@@ -1,11 +1,11 @@
 // What is counted of a day beside the books: accepted lots, late lots, and the lot that closed the window.
 ghost use Rattle.std.specs.Prelude.{◌≡◌, ◌+◌, ◌^◌, ◌<◌, ◌≤◌};
-ghost use Rattle.playing.specs.Tallies.{noted};
+ghost use Rattle.playing.specs.Tallies.{counted, noted};
 
 use fault::{Fault, Refusal};
 
 // The closing lot by its number among the accepted ones.
-#[derive(Clone, Copy)]
+#[derive(Clone, Copy, Default)]
 pub struct Tally {
     pub accepted: usize,
     pub late: usize,
@@ -15,8 +15,7 @@ pub struct Tally {
 impl Tally {
     // Notes what a lot was answered, and whether the window is closed after it.
     pub(crate) fn note(&mut self, answer: Result<(), Fault>, closed: bool)
-        requires few { self.old.accepted < 2 ^ 63 }
-        requires fewer { self.old.late < 2 ^ 63 }
+        requires { counted self.old < 2 ^ 63 }
         ensures { self.new ≡ noted answer closed self.old }
     {
         match answer {
@@ -26,11 +25,13 @@ impl Tally {
                     self.closing = Some(self.accepted);
                 }
             }
-            Err(fault) => {
-                if fault.refusal.number() == Refusal::WindowClosed.number() {
-                    self.late += 1;
-                }
-            }
+            Err(
+                Fault {
+                    refusal: Refusal::WindowClosed,
+                    ..
+                },
+            ) => self.late += 1,
+            Err(_) => {}
         }
     }
 }

@@ -5,9 +5,9 @@ use Rattle.fault.specs.declared.Layer.TheVariants.{Window}
 use Rattle.fault.specs.declared.Refusal.TheVariants.{PostUsed}
 use Rattle.window.specs.Windows.{setting_in}
 use Rattle.playing.specs.declared.tally.Tally.{Tally}
-use Rattle.playing.specs.Tallies.{noted}
+use Rattle.playing.specs.Tallies.{counted, noted}
 use Rattle.playing.specs.Days.{DayAt}
-use Rattle.playing.proofs.Noting.{day_next, open_if_accepted, noted_accepted, noted_late}
+use Rattle.playing.proofs.Noting.{day_next, open_if_accepted, noted_counted}
 use Rattle.playing.proofs.day.Played.next.Goals as goal
 
 unchanged : (closed : Bool) (t : Tally) → noted (Err (fault Window PostUsed 0)) closed t ≡ t
@@ -26,8 +26,7 @@ returns g c =
     record {
       became = lot.became;
       setting = same_setting;
-      accepted = omega (arith, ap (λ (t : Tally). t.accepted) tally, noted_accepted a closed p.tally);
-      late = omega (arith, ap (λ (t : Tally). t.late) tally, noted_late a closed p.tally);
+      counted = omega (arith, ap counted tally, noted_counted a closed p.tally);
       used = λ used.
           let z = lot.refused (fault Window PostUsed 0) (cond-true _ _ _ used) in
           let t : c.note.new.self ≡ p.tally = tally ∙ (ap (λ a. noted a closed p.tally) z.0 ∙ unchanged closed p.tally) in
