@@ -2,12 +2,14 @@
 ghost use Rattle.std.specs.Prelude.{◌≡◌};
 ghost use Rattle.reader.specs.Bytes.{of_kind};
 
+use marks::Mark;
+
 // Kept: an enum, since a contract names a run by its kind, and a closure has no name there.
 #[derive(Clone, Copy)]
 pub enum ByteKind {
     // `0` to `9`.
     Digit,
-    // `.`, `-` or `+`.
+    // A mark of a wire: `.`, `-` or `+`.
     Mark,
 }
 
@@ -18,7 +20,7 @@ impl ByteKind {
     {
         match self {
             ByteKind::Digit => byte.is_ascii_digit(),
-            ByteKind::Mark => matches!(byte, b'.' | b'-' | b'+'),
+            ByteKind::Mark => Mark::is_written(byte),
         }
     }
 }
