@@ -1,18 +1,19 @@
 // The texts that are printed.
-ghost use Rattle.std.specs.Prelude.{◌≡◌, [], ◌++◌, IfOk};
-ghost use Rattle.printing.specs.AnswerText.{fault_text, summary_text, answer_text};
+ghost use Rattle.std.specs.Prelude.{◌≡◌, ◌++◌, vec_items, IfOk, OnOk};
+ghost use Rattle.reader.specs.Answers.{Gives};
+ghost use Rattle.printing.specs.AnswerText.{fault_text, summary_text, summary_of, answer_text, TextOrFault};
 ghost use Rattle.day.specs.Models.{day_model};
 ghost use Rattle.terms.specs.Models.{ladder_model, terms_model};
 ghost use Rattle.terms.specs.Written.{ladder_text, post_text, terms_text};
 
 use crate::lines::fault_line;
-use crate::writer::{push_line, push_number, push_number_line, push_numbers};
 use day::Day;
 use fault::{Failure, Fault};
 use reader::words;
 use std::alloc::{AllocError, Global};
 use terms::{LadderChoice, PostChoice, Terms};
-use texts::read_texts;
+use texts::Texts;
+use writer::Lines;
 
 const FAULT_KEY: &[u8] = b"fault=";
 
@@ -23,38 +24,46 @@ const PLACE_KEY: &[u8] = b"place=";
 const LINE_KEY: &[u8] = b"line=";
 
 // The four lines of a fault in one of the two texts.
-pub fn fault_text(
-    heap: Global,
-    terms: &[u8],
-    day: &[u8],
-    fault: Fault,
-) -> Result<Vec<u8>, AllocError>
-    ensures { IfOk result (λ v. v.items ≡ fault_text terms.now day.now fault) }
+pub fn fault_text(heap: Global, texts: Texts<'_>, fault: Fault) -> Result<Vec<u8>, AllocError>
+    ensures { IfOk result (λ v. v.items ≡ fault_text texts.entry.terms.now texts.entry.day.now fault) }
 {
-    let mut out = Vec::new(heap);
-    push_number_line(heap, &mut out, FAULT_KEY, fault.refusal.number() as usize)?;
-    push_line(&mut out, LAYER_KEY, fault.layer.name().as_bytes())?;
-    push_number_line(heap, &mut out, PLACE_KEY, fault.place)?;
-    push_line(&mut out, LINE_KEY, fault_line(terms, day, fault))?;
-    Ok(out)
+    let mut lines = Lines::new(heap);
+    lines.push_number_line(FAULT_KEY, fault.refusal.number())?;
+    lines.push_line(LAYER_KEY, fault.layer.name().as_bytes())?;
+    lines.push_number_line(PLACE_KEY, fault.place)?;
+    lines.push_line(LINE_KEY, fault_line(texts, fault))?;
+    Ok(lines.into_bytes())
+}
+
+// The text that was made, or the four lines of the fault that was met in its place.
+pub fn text_or_fault(
+    heap: Global,
+    texts: Texts<'_>,
+    made: Result<Vec<u8>, Failure>,
+) -> Result<Vec<u8>, AllocError>
+    ensures { TextOrFault vec_items texts.entry.terms.now texts.entry.day.now made result }
+{
+    match made {
+        Ok(text) => Ok(text),
+        Err(Failure::Faulty(fault)) => fault_text(heap, texts, fault),
+        Err(Failure::NoMemory) => Err(AllocError),
+    }
 }
 
 // The ladder as the terms write it.
-fn ladder_text(heap: Global, ladder: &LadderChoice) -> Result<Vec<u8>, AllocError>
-    ensures { IfOk result (λ v. v.items ≡ ladder_text (ladder_model ladder.now)) }
+fn push_ladder(lines: &mut Lines, ladder: &LadderChoice) -> Result<(), AllocError>
+    ensures { OnOk result (lines.new ≡ lines.old ++ ladder_text (ladder_model ladder.now)) }
 {
-    let mut out = Vec::new(heap);
     match ladder {
         LadderChoice::Halving(steps) => {
-            out.extend_from_slice(words::HALVING_WORD)?;
-            push_number(heap, &mut out, *steps as usize)?;
+            lines.push(words::HALVING_WORD)?;
+            lines.push_number(*steps)
         }
         LadderChoice::Listed(divisors) => {
-            out.extend_from_slice(words::LISTED_WORD)?;
-            push_numbers(heap, &mut out, divisors.as_slice())?;
+            lines.push(words::LISTED_WORD)?;
+            lines.push_numbers(divisors.as_slice())
         }
     }
-    Ok(out)
 }
 
 // The post as the terms write it.
@@ -68,35 +77,40 @@ fn post_text(post: PostChoice) -> &'static [u8]
 }
 
 // The four lines of the terms.
-fn terms_text(heap: Global, terms: &Terms) -> Result<Vec<u8>, AllocError>
-    ensures { IfOk result (λ v. v.items ≡ terms_text (terms_model terms.now)) }
+fn push_terms(lines: &mut Lines, terms: &Terms) -> Result<(), AllocError>
+    ensures { OnOk result (lines.new ≡ lines.old ++ terms_text (terms_model terms.now)) }
 {
-    let mut out = Vec::new(heap);
-    push_number_line(heap, &mut out, words::OFFICES_KEY, terms.offices as usize)?;
-    push_number_line(heap, &mut out, words::GRAIN_KEY, terms.grain as usize)?;
-    let ladder = ladder_text(heap, &terms.ladder)?;
-    push_line(&mut out, words::LADDER_KEY, ladder.as_slice())?;
-    push_line(&mut out, words::POST_KEY, post_text(terms.post))?;
-    Ok(out)
+    lines.push_number_line(words::OFFICES_KEY, terms.offices)?;
+    lines.push_number_line(words::GRAIN_KEY, terms.grain)?;
+    lines.push(words::LADDER_KEY)?;
+    push_ladder(lines, &terms.ladder)?;
+    lines.end_line()?;
+    lines.push_line(words::POST_KEY, post_text(terms.post))
 }
 
 // The terms, and how many marks and lots there are.
 fn summary_text(heap: Global, terms: &Terms, day: &Day<'_>) -> Result<Vec<u8>, AllocError>
     ensures { IfOk result (λ v. v.items ≡ summary_text (terms_model terms.now) (day_model day.now)) }
 {
-    let mut out = terms_text(heap, terms)?;
-    push_number_line(heap, &mut out, words::MARKS_KEY, day.marks.len())?;
-    push_number_line(heap, &mut out, words::LOTS_KEY, day.lots.len())?;
-    Ok(out)
+    let mut lines = Lines::new(heap);
+    push_terms(&mut lines, terms)?;
+    lines.push_number_line(words::MARKS_KEY, day.marks.len())?;
+    lines.push_number_line(words::LOTS_KEY, day.lots.len())?;
+    Ok(lines.into_bytes())
+}
+
+// What the two texts say, or their first fault.
+fn summary(heap: Global, texts: Texts<'_>) -> Result<Vec<u8>, Failure>
+    ensures { Gives vec_items (summary_of texts.entry.terms.now texts.entry.day.now) result }
+{
+    let (agreed, played) = texts.read(heap)?;
+    Ok(summary_text(heap, &agreed, &played)?)
 }
 
 // What the program prints of the two texts.
-pub fn answer(heap: Global, terms: &[u8], day: &[u8]) -> Result<Vec<u8>, AllocError>
-    ensures { IfOk result (λ v. v.items ≡ answer_text terms.now day.now) }
+pub fn answer(heap: Global, texts: Texts<'_>) -> Result<Vec<u8>, AllocError>
+    ensures { IfOk result (λ v. v.items ≡ answer_text texts.entry.terms.now texts.entry.day.now) }
 {
-    match read_texts(heap, terms, day) {
-        Ok((agreed, played)) => summary_text(heap, &agreed, &played),
-        Err(Failure::Faulty(fault)) => fault_text(heap, terms, day, fault),
-        Err(Failure::NoMemory) => Err(AllocError),
-    }
+    let summary = summary(heap, texts);
+    text_or_fault(heap, texts, summary)
 }

@@ -3,7 +3,6 @@
 
 mod answers;
 mod lines;
-mod writer;
 
-pub use answers::{answer, fault_text};
+pub use answers::{answer, fault_text, text_or_fault};
 pub use lines::fault_line;

@@ -1,55 +1,57 @@
 // The line of a text that a fault lies in.
-ghost use Rattle.std.specs.Prelude.{◌≡◌, ◌+◌, ◌-◌, ◌≤◌, length, take, drop};
-ghost use Rattle.std.specs.List.{prefix_len, suffix_len};
-ghost use Rattle.printing.specs.FaultLine.{in_line, line_at, fault_line};
+ghost use Rattle.std.specs.Prelude.{◌≡◌, ◌≤◌, min, length};
+ghost use Rattle.printing.specs.FaultLine.{in_line, line_start, line_stop, line_at, fault_line};
 
 use fault::{Fault, Layer};
 use reader::line_end_length;
+use texts::Texts;
 
-// Where the line around `place` begins.
-fn line_start(text: &[u8], place: usize) -> usize
-    requires { place ≤ length text.now }
-    ensures value { result ≡ place - suffix_len in_line (take place text.now) }
-    ensures bound { result ≤ place }
+// Whether the byte ends no line.
+fn in_line(byte: u8) -> bool
+    ensures { result ≡ in_line byte }
 {
-    let mut at = place;
-    while at > 0 && line_end_length(text, at - 1) == 0 {
-        at -= 1;
-    }
-    at
+    line_end_length(&[byte], 0) == 0
 }
 
-// Where the line around `place` stops: at its line end, or at the text's end.
+// Where the line around `place` begins: past the last line end before it, or at the text's start.
+fn line_start(text: &[u8], place: usize) -> usize
+    ensures value { result ≡ line_start text.now place }
+    ensures bound { result ≤ min place (length text.now) }
+{
+    let before = &text[..place.min(text.len())];
+    let in_this_line = before
+        .iter()
+        .rev()
+        .take_while(|byte| in_line(**byte))
+        .count();
+    before.len() - in_this_line
+}
+
+// Where the line around `place` stops: at the first line end from there on, or at the text's end.
 fn line_stop(text: &[u8], place: usize) -> usize
-    requires { place ≤ length text.now }
-    ensures value { result ≡ place + prefix_len in_line (drop place text.now) }
-    ensures low_bound { place ≤ result }
+    ensures value { result ≡ line_stop text.now place }
+    ensures low_bound { min place (length text.now) ≤ result }
     ensures high_bound { result ≤ length text.now }
 {
-    let mut at = place;
-    while at < text.len() && line_end_length(text, at) == 0 {
-        at += 1;
-    }
-    at
+    let after = &text[place.min(text.len())..];
+    let in_this_line = after.iter().take_while(|byte| in_line(**byte)).count();
+    text.len() - after.len() + in_this_line
 }
 
 // The line of `text` around `place`; past the end, the last line.
 fn line_at(text: &[u8], place: usize) -> &[u8]
     ensures value { result.now ≡ line_at text.now place }
 {
-    let place = place.min(text.len());
-    let start = line_start(text, place);
-    let stop = line_stop(text, place);
-    &text[start..stop]
+    &text[line_start(text, place)..line_stop(text, place)]
 }
 
 // The line that the fault lies in, as a part of the text that its layer names; empty for any other layer.
-pub fn fault_line<'a>(terms: &'a [u8], day: &'a [u8], fault: Fault) -> &'a [u8]
-    ensures value { result.now ≡ fault_line terms.now day.now fault }
+pub fn fault_line<'a>(texts: Texts<'a>, fault: Fault) -> &'a [u8]
+    ensures value { result.now ≡ fault_line texts.entry.terms.now texts.entry.day.now fault }
 {
     match fault.layer {
-        Layer::Terms => line_at(terms, fault.place),
-        Layer::Day => line_at(day, fault.place),
+        Layer::Terms => line_at(texts.terms, fault.place),
+        Layer::Day => line_at(texts.day, fault.place),
         _ => &[],
     }
 }

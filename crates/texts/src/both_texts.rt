@@ -11,6 +11,13 @@ use terms::{Terms, read_terms};
 // The most bytes that a text may have.
 pub const MOST_BYTES: usize = 65535;
 
+// The text of the terms and the text of the day.
+#[derive(Clone, Copy)]
+pub struct Texts<'a> {
+    pub terms: &'a [u8],
+    pub day: &'a [u8],
+}
+
 fn short(layer: Layer, text: &[u8]) -> Result<(), Fault>
     ensures { result ≡ short_text layer text.now }
 {
@@ -24,24 +31,23 @@ fn short(layer: Layer, text: &[u8]) -> Result<(), Fault>
     Ok(())
 }
 
-fn both<'a>(heap: Global, terms: &[u8], day: &'a [u8]) -> Result<(Terms, Day<'a>), Failure>
-    ensures value { Gives both_model (read_both terms.now day.now) result }
-{
-    short(Layer::Terms, terms)?;
-    short(Layer::Day, day)?;
-    let agreed = read_terms(heap, terms)?;
-    let played = read_day(heap, day, agreed.offices)?;
-    Ok((agreed, played))
-}
+impl<'a> Texts<'a> {
+    // Lengths, terms, day, in this order.
+    fn read_in_turn(self, heap: Global) -> Result<(Terms, Day<'a>), Failure>
+        ensures value { Gives both_model (read_both self.entry.terms.now self.entry.day.now) result }
+    {
+        short(Layer::Terms, self.terms)?;
+        short(Layer::Day, self.day)?;
+        let agreed = read_terms(heap, self.terms)?;
+        let played = read_day(heap, self.day, agreed.offices)?;
+        Ok((agreed, played))
+    }
 
-// What the two texts say, or their first fault: both lengths are looked at first, then the terms and the day are read.
-pub fn read_texts<'a>(
-    heap: Global,
-    terms: &[u8],
-    day: &'a [u8],
-) -> Result<(Terms, Day<'a>), Failure>
-    ensures value { Gives both_model (read_both terms.now day.now) result }
-    ensures exact { ReadsExactly terms.now day.now result }
-{
-    both(heap, terms, day)
+    // What the two texts say, or their first fault: both lengths are looked at first, then the terms and the day are read.
+    pub fn read(self, heap: Global) -> Result<(Terms, Day<'a>), Failure>
+        ensures value { Gives both_model (read_both self.entry.terms.now self.entry.day.now) result }
+        ensures exact { ReadsExactly self.entry.terms.now self.entry.day.now result }
+    {
+        self.read_in_turn(heap)
+    }
 }

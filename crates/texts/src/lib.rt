@@ -3,4 +3,4 @@
 
 mod both_texts;
 
-pub use both_texts::{MOST_BYTES, read_texts};
+pub use both_texts::{MOST_BYTES, Texts};

@@ -5,9 +5,6 @@ use Rattle.reader.specs.Words.{comma}
 use Rattle.reader.specs.Lists.{commas}
 use Rattle.reader.specs.Readings.{line}
 
-pub line_put : (a : List ℕ) {b c d : List ℕ} (key value : List ℕ) → b ≡ a ++ key → c ≡ b ++ value → d ≡ c ++ 10 ∷ [] → d ≡ a ++ line key value []
-line_put a key value e f g = g ∙ ap (λ x. x ++ 10 ∷ []) (f ∙ ap (λ x. x ++ value) e) ∙ append_assoc (a ++ key) value (10 ∷ []) ∙ append_assoc a key (value ++ 10 ∷ [])
-
 commas_push : (xs : List ℕ) (x : ℕ) → 0 < length xs → commas (xs ++ x ∷ []) ≡ commas xs ++ (comma ++ decimal x)
 commas_push [] x h = absurd (omega arith)
 commas_push (a ∷ []) x h = refl

@@ -1,53 +1,98 @@
 // Lines of output, built up in a list of bytes.
 #![tactic(auto)]
 
-ghost use Rattle.std.specs.Prelude.{◌≡◌, [], ◌++◌, decimal, OnOk};
+ghost use Rattle.std.specs.Prelude.{◌≡◌, ℕ, List, [], ◌∷◌, ◌++◌, IfSome, OnOk};
 ghost use Rattle.reader.specs.Lists.{commas};
 ghost use Rattle.reader.specs.Readings.{line};
 
 use reader::words;
 use std::alloc::{AllocError, Global};
+use std::fmt::Display;
+use std::marker::Model;
 
-// One line more: a key, a value and a line end.
-pub fn push_line(out: &mut Vec<u8>, key: &[u8], value: &[u8]) -> Result<(), AllocError>
-    ensures { OnOk result (out.new.items ≡ out.old.items ++ line key.now value.now []) }
-{
-    out.extend_from_slice(key)?;
-    out.extend_from_slice(value)?;
-    out.push(b'\n')?;
-    Ok(())
+// The lines so far.
+#[derive(Drop)]
+pub struct Lines {
+    bytes: Vec<u8>,
 }
 
-// The digits of a number.
-pub fn push_number(heap: Global, out: &mut Vec<u8>, number: u64) -> Result<(), AllocError>
-    ensures { OnOk result (out.new.items ≡ out.old.items ++ decimal number) }
-{
-    let digits = format!(in heap; "{number}")?;
-    out.extend_from_slice(digits.as_bytes())
+// Callers see the bytes.
+impl Model for Lines {
+    ghost Value = { List ℕ };
+
+    ghost view = { λ lines. lines.bytes.items };
 }
 
-// One line more with a number for its value.
-pub fn push_number_line(
-    heap: Global,
-    out: &mut Vec<u8>,
-    key: &[u8],
-    number: u64,
-) -> Result<(), AllocError>
-    ensures { OnOk result (out.new.items ≡ out.old.items ++ line key.now (decimal number) []) }
-{
-    let digits = format!(in heap; "{number}")?;
-    push_line(out, key, digits.as_bytes())
-}
-
-// Numbers with commas between.
-pub fn push_numbers(heap: Global, out: &mut Vec<u8>, numbers: &[u32]) -> Result<(), AllocError>
-    ensures { OnOk result (out.new.items ≡ out.old.items ++ commas numbers.now) }
-{
-    for (i, number) in numbers.iter().enumerate() {
-        if i > 0 {
-            out.extend_from_slice(words::COMMA)?;
+impl Lines {
+    // No line yet.
+    pub fn new(heap: Global) -> Lines
+        ensures { result ≡ [] }
+    {
+        Lines {
+            bytes: Vec::new(heap),
         }
-        push_number(heap, out, *number as u64)?;
     }
-    Ok(())
+
+    // Bytes of a line.
+    pub fn push(&mut self, bytes: &[u8]) -> Result<(), AllocError>
+        ensures { OnOk result (self.new ≡ self.old ++ bytes.now) }
+    {
+        self.bytes.extend_from_slice(bytes)
+    }
+
+    // The end of a line.
+    pub fn end_line(&mut self) -> Result<(), AllocError>
+        ensures { OnOk result (self.new ≡ self.old ++ 10 ∷ []) }
+    {
+        self.push(b"\n")
+    }
+
+    // One line more: a key, a value and a line end.
+    pub fn push_line(&mut self, key: &[u8], value: &[u8]) -> Result<(), AllocError>
+        ensures { OnOk result (self.new ≡ self.old ++ line key.now value.now []) }
+    {
+        self.push(key)?;
+        self.push(value)?;
+        self.end_line()
+    }
+
+    // The digits of a number.
+    pub fn push_number<N: Display + Copy>(&mut self, number: N) -> Result<(), AllocError>
+        ensures { OnOk result (IfSome (N.output number) (λ digits. self.new ≡ self.old ++ digits)) }
+    {
+        let digits = number.to_string(*self.bytes.allocator())?;
+        self.push(digits.as_bytes())
+    }
+
+    // One line more with a number for its value.
+    pub fn push_number_line<N: Display + Copy>(
+        &mut self,
+        key: &[u8],
+        number: N,
+    ) -> Result<(), AllocError>
+        ensures { OnOk result (IfSome (N.output number) (λ digits. self.new ≡ self.old ++ line key.now digits [])) }
+    {
+        let digits = number.to_string(*self.bytes.allocator())?;
+        self.push_line(key, digits.as_bytes())
+    }
+
+    // Numbers with commas between.
+    pub fn push_numbers(&mut self, numbers: &[u32]) -> Result<(), AllocError>
+        ensures { OnOk result (self.new ≡ self.old ++ commas numbers.now) }
+    {
+        for (i, number) in numbers.iter().enumerate() {
+            if i > 0 {
+                self.push(words::COMMA)?;
+            }
+            self.push_number(*number)?;
+        }
+        Ok(())
+    }
+
+    // All lines, as bytes.
+    pub fn into_bytes(self) -> Vec<u8>
+        ensures { result.items ≡ self }
+    {
+        self.bytes
+    }
 }

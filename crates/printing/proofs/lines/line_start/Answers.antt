@@ -1,15 +1,17 @@
-use Rattle.std.proofs.Common.{◌-◌, arith}
-use Rattle.std.proofs.lemmas.List.Sums.{suffix_len-take_yes, suffix_len-take_no}
+use Rattle.std.proofs.Common.{◌≡◌, ℕ, take, reverse, rules, tests, ap, ◌∙◌, arith}
+use Rattle.std.specs.List.{suffix_len}
+use Rattle.std.proofs.lemmas.Iterator.Adapters.{YieldsList-from_rev_slice}
+use Rattle.std.proofs.lemmas.Iterator.Consumers.{count_from_yields_List}
+use Rattle.std.proofs.lemmas.Iterator.Search.{YieldsList-from_take_while}
+use Rattle.std.proofs.lemmas.List.{length-take, take_min}
+use Rattle.std.proofs.lemmas.List.Folds.{length-prefix_len}
 use Rattle.printing.specs.FaultLine.{in_line}
-use Rattle.printing.proofs.LineAt.{inside, ends}
 use Rattle.printing.proofs.lines.line_start.Goals as goal
 
-pub loop-at-preserved : goal.loop-at-preserved
-loop-at-preserved c =
-    let more = suffix_len-take_yes in_line c.args.text.now c.loop-at.at 0 c.loop-at-test.true (omega arith) (inside _ (c.loop-at.at - 1) _ (omega arith) c.line_end_length.ensures.value c.if-line_end_length-eq0.true) in
-    (omega arith, omega (arith, more, c.loop-at.invariant.1))
-
-pub returns-else-line_end_length-eq0 : goal.returns-else-line_end_length-eq0
-returns-else-line_end_length-eq0 c =
-    let none = suffix_len-take_no in_line c.args.text.now c.loop-at.at 0 c.loop-at-test.true (omega arith) (ends _ (c.loop-at.at - 1) _ (omega arith) c.line_end_length.ensures.value c.if-line_end_length-eq0.false) in
-    record { value = omega (arith, none, c.loop-at.invariant.1); bound = c.loop-at.invariant.0 }
+pub returns-clause-value : goal.returns-clause-value
+returns-clause-value c =
+    let text = c.args.text.now in
+    let before = c.iter.result.rest.now in
+    let counted : c.count-in_this_line.result ≡ suffix_len in_line before = count_from_yields_List c.take_while.result _ c.count-in_this_line.ensures.ran (YieldsList-from_take_while _ in_line (YieldsList-from_rev_slice before cc) c.take_while.ensures.closure c.take_while.ensures.done (λ x b q k. search (rules, tests))) ∙ length-prefix_len in_line (reverse before) in
+    let same : before ≡ take c.args.place text = c.iter.ensures.rest ∙ ap (λ n. take n text) c.min.ensures ∙ take_min c.args.place text in
+    omega (arith, length-take c.min.result text, ap (suffix_len in_line) same)

@@ -8,7 +8,7 @@ use Rattle.report.proofs.text.report_text.Goals as goal
 pub returns : goal.returns
 returns c =
     let r = c.args.report.now in
-    at_end
+    c.into_bytes.ensures ∙ at_end
     (before_line _ remainders_key (commas (vec_items r.remainders)) c.in_ok-push_list-2.ensures (ap commas c.as_slice-2.ensures.value) []
     ∙ before_line _ credits_key (commas (vec_items r.credits)) c.in_ok-push_list.ensures (ap commas c.as_slice.ensures.value) _
     ∙ before_line _ late_key (decimal r.late) c.in_ok-push_number_line-6.ensures refl _
@@ -18,4 +18,4 @@ returns c =
     ∙ before_line _ signals_key (decimal r.signals) c.in_ok-push_number_line-2.ensures refl _
     ∙ before_line _ step_key (decimal r.step) c.in_ok-push_number_line.ensures refl _
     ∙ before_line _ closed_key (closed_text r.closed) c.in_ok-push_closed.ensures refl _
-    ∙ at_start c.new-out.ensures.items _)
+    ∙ at_start c.new-lines.ensures _)

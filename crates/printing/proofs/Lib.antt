@@ -1,2 +1,0 @@
-pub mod LineAt
-pub mod Joined
