@@ -28,6 +28,12 @@ PrintedAs terms day (Err f) bytes = bytes ≡ fault_text terms day f
 abbrev pub Printed : (terms day bytes : List ℕ) → Type 0
 Printed terms day bytes = PrintedAs terms day (read_both terms day) bytes
 
+-- What is to be printed was made, or the fault that is to be told was met, or there was no memory.
+abbrev pub Made : {X : Type 0} → (X → List ℕ) → (terms day : List ℕ) → Result X Failure → Type 0
+Made bytes terms day (Ok v) = Printed terms day (bytes v)
+Made bytes terms day (Err (Faulty f)) = Printed terms day (fault_text terms day f)
+Made bytes terms day (Err NoMemory) = Unit {0}
+
 -- Terms and a day that a text can say.
 pub record Playable (x : TermsModel) (y : DayModel) : Type 0 where
   pub terms : TermsInRange x

@@ -1,5 +1,6 @@
 -- The report that a played day gives, figure by figure: the words of the inner contracts. Assumes nothing.
-use Rattle.std.specs.Prelude.{ℕ, List}
+use Rattle.std.specs.Prelude.{◌≡◌, ℕ, ◌+◌, ◌<◌, List, length, Ok, Result, slice_index}
+use Rattle.fault.specs.declared.Fault.{Fault}
 use Rattle.post.specs.Lanes.{Lane}
 use Rattle.window.specs.Windows.{books_of}
 use Rattle.playing.specs.declared.day.Played.{Played}
@@ -17,3 +18,8 @@ model_of lanes p frames = record {
   credits = (books_of lanes p.window).credits;
   remainders = (books_of lanes p.window).remainders;
 }
+
+-- Where each office answers with its number of a list, that list was found; `answers` says what an office may answer.
+abbrev pub Gathers : (answers : ℕ → Result ℕ Fault → Type 0) → (offices : ℕ) → (found : List ℕ) → Type 0
+Gathers answers offices found =
+    (xs : List ℕ) → length xs ≡ offices → ((place : ℕ) (r : Result ℕ Fault) → place < offices → answers (place + 1) r → r ≡ Ok (slice_index xs place)) → found ≡ xs

@@ -1,44 +1,27 @@
 // The answer to two texts.
-ghost use Rattle.std.specs.Prelude.{IfOk};
-ghost use Rattle.day.specs.Models.{day_model};
-ghost use Rattle.terms.specs.Models.{terms_model};
-ghost use Rattle.answering.specs.Answers.{Playable, ReportPrinted, Printed};
+ghost use Rattle.std.specs.Prelude.{IfOk, vec_items};
+ghost use Rattle.answering.specs.Answers.{Printed, Made};
 
 use crate::reports::day_report;
-use day::Day;
 use fault::Failure;
-use printing::fault_text;
+use printing::text_or_fault;
 use report::report_text;
 use std::alloc::{AllocError, Global};
-use terms::Terms;
-use texts::read_texts;
+use texts::Texts;
 
-// The report of the day, or the four lines of a fault.
-fn day_text(
-    heap: Global,
-    terms: &[u8],
-    day: &[u8],
-    agreed: &Terms,
-    played: &Day<'_>,
-) -> Result<Vec<u8>, AllocError>
-    ensures { Playable (terms_model agreed.now) (day_model played.now) → IfOk result (λ v. ReportPrinted (terms_model agreed.now) (day_model played.now) v.items) }
+// The report of the day that the texts say, or their first fault.
+fn day_text(heap: Global, texts: Texts<'_>) -> Result<Vec<u8>, Failure>
+    ensures { Made vec_items texts.entry.terms.now texts.entry.day.now result }
 {
-    match day_report(heap, agreed, played) {
-        Ok(report) => report_text(heap, &report),
-        Err(error) => match error {
-            Failure::Faulty(fault) => fault_text(heap, terms, day, fault),
-            Failure::NoMemory => Err(AllocError),
-        },
-    }
+    let (agreed, played) = texts.read(heap)?;
+    let report = day_report(heap, &agreed, &played)?;
+    Ok(report_text(heap, &report)?)
 }
 
 // What the program prints of the terms and the day.
-pub fn answer(heap: Global, terms: &[u8], day: &[u8]) -> Result<Vec<u8>, AllocError>
-    ensures { IfOk result (λ v. Printed terms.now day.now v.items) }
+pub fn answer(heap: Global, texts: Texts<'_>) -> Result<Vec<u8>, AllocError>
+    ensures { IfOk result (λ v. Printed texts.entry.terms.now texts.entry.day.now v.items) }
 {
-    match read_texts(heap, terms, day) {
-        Ok((agreed, played)) => day_text(heap, terms, day, &agreed, &played),
-        Err(Failure::Faulty(fault)) => fault_text(heap, terms, day, fault),
-        Err(Failure::NoMemory) => Err(AllocError),
-    }
+    let made = day_text(heap, texts);
+    text_or_fault(heap, texts, made)
 }

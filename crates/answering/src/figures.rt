@@ -1,37 +1,28 @@
 // The figures of a played day, gathered into a report.
 ghost use Rattle.std.specs.Prelude.{◌≡◌, IfOk};
 ghost use Rattle.report.specs.Models.{report_model};
-ghost use Rattle.window.specs.Windows.{books_of};
-ghost use Rattle.answering.specs.Figures.{model_of};
+ghost use Rattle.answering.specs.Figures.{Gathers, model_of};
 
 use bit_post::FrameCount;
+use fault::Fault;
 use playing::Played;
 use post::Post;
 use report::Report;
 use std::alloc::{AllocError, Global};
-use window::Window;
 
-// The credit of every office, from office 1 on.
-fn credits<P: Post>(heap: Global, window: &Window<P>) -> Result<Vec<u32>, AllocError>
-    ensures { IfOk result (λ v. v.items ≡ (books_of P.Post.lanes window.now).credits) }
+// What each office answers, from office 1 on; an office that answers with a fault is left out.
+fn gather<F: Fn(u32) -> Result<u32, Fault>>(
+    heap: Global,
+    offices: u32,
+    figure: F,
+) -> Result<Vec<u32>, AllocError>
+    requires { F.IsAlwaysCallable figure }
+    ensures { IfOk result (λ v. Gathers (F.post figure) offices v.items) }
 {
     let mut list = Vec::new(heap);
-    for place in 0..window.office_count() {
-        if let Ok(credit) = window.credit(place + 1) {
-            list.push(credit)?;
-        }
-    }
-    Ok(list)
-}
-
-// The remainder of every office, from office 1 on.
-fn remainders<P: Post>(heap: Global, window: &Window<P>) -> Result<Vec<u32>, AllocError>
-    ensures { IfOk result (λ v. v.items ≡ (books_of P.Post.lanes window.now).remainders) }
-{
-    let mut list = Vec::new(heap);
-    for place in 0..window.office_count() {
-        if let Ok(remainder) = window.remainder(place + 1) {
-            list.push(remainder)?;
+    for place in 0..offices {
+        if let Ok(number) = figure(place + 1) {
+            list.push(number)?;
         }
     }
     Ok(list)
@@ -45,8 +36,10 @@ pub fn report_of<P: Post>(
 ) -> Result<Report, AllocError>
     ensures { IfOk result (λ m. report_model m ≡ model_of P.Post.lanes played.now frames.count) }
 {
-    let credits = credits(heap, &played.window)?;
-    let remainders = remainders(heap, &played.window)?;
+    let window = &played.window;
+    let offices = window.office_count();
+    let credits = gather(heap, offices, |office| window.credit(office))?;
+    let remainders = gather(heap, offices, |office| window.remainder(office))?;
     Ok(Report {
         closed: played.tally.closing,
         step: played.window.step(),

@@ -41,11 +41,7 @@ fn report_bit<L: Ladder + Drop>(
 ) -> Result<Report, Failure>
     ensures { BitReported offices (L.Ladder.steps ladder) (L.Ladder.slack ladder) marks.now lots.now result }
 {
-    let wire = match MarkedWire::new(heap, offices, marks) {
-        Ok(wire) => wire,
-        Err(Failure::Faulty(fault)) => return Err(Failure::Faulty(fault)),
-        Err(Failure::NoMemory) => return Err(Failure::NoMemory),
-    };
+    let wire = MarkedWire::new(heap, offices, marks)?;
     let played = play_over_wire(wire, ladder, lots);
     let frames = frames_of(&played.window);
     Ok(report_of(heap, &played, frames)?)
