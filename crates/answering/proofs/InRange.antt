@@ -79,24 +79,3 @@ listed_refused x y ds f is e p = no_fault f (e ∙ listed_none x.grain ds p.term
 
 pub halving_refused : (x : TermsModel) (y : DayModel) (steps : ℕ) (f : Fault) → x.ladder ≡ halving steps → Some f ≡ halving_fault x.grain steps → Playable x y → ⊥
 halving_refused x y steps f is e p = no_fault f (e ∙ halving_none x.grain steps p.terms.grain_low p.terms.grain_high (subst (LadderInRange x.grain) is p.terms.ladder))
-
--- texts that were read can be played
-marks_within : (y : DayModel) → length y.marks ≤ length (day_text y)
-marks_within y = simp length-append (omega arith)
-
-pub playable : (t d : List ℕ) (x : TermsModel) (y : DayModel) → Admissible t d x y → Playable x y
-playable t d x y a = record {
-  terms = a.terms_range;
-  day = a.day_range;
-  marks = omega (arith, marks_within y, ap length a.day_written, a.day_short);
-}
-
--- what is printed of texts that were read
-made_by : {X Y : Type 0} (r : Result X Y) (P Q : X → Type 0) → ((x : X) → P x → Q x) → IfOk r P → IfOk r Q
-made_by (Ok x) P Q f m = f x m
-made_by (Err y) P Q f m = tt
-
-pub printed : {X Y : Type 0} (t d : List ℕ) (x : TermsModel) (y : DayModel) (bytes : X → List ℕ) (r : Result X Y) → read_both t d ≡ Ok (x, y) → Admissible t d x y
-    → (Playable x y → IfOk r (λ v. ReportPrinted x y (bytes v))) → IfOk r (λ v. Printed t d (bytes v))
-printed t d x y bytes r read a m =
-    made_by r (λ v. ReportPrinted x y (bytes v)) (λ v. Printed t d (bytes v)) (λ v p. subst (λ z. PrintedAs t d z (bytes v)) (sym read) p) (m (playable t d x y a))

@@ -6,6 +6,7 @@ use printing::answer;
 use std::io::{ErrorKind, Read, Write};
 use std::process::ExitCode;
 use std::{fs, io};
+use texts::Texts;
 
 // One byte more than a text may have, so that a text that is too long is seen to be.
 const READ_LIMIT: u64 = 65536;
@@ -39,7 +40,11 @@ fn read_named(rt: &HostRuntime, path: &str) -> anyhow::Result<Vec<u8>> {
 fn run(rt: &HostRuntime) -> anyhow::Result<()> {
     let terms = read_named(rt, "terms.txt")?;
     let day = read_named(rt, "day.txt")?;
-    let printed = answer(rt.alloc(), terms.as_slice(), day.as_slice())?;
+    let texts = Texts {
+        terms: terms.as_slice(),
+        day: day.as_slice(),
+    };
+    let printed = answer(rt.alloc(), texts)?;
     let mut out = rt.stdout();
     out.write_all(printed.as_slice())?;
     out.flush()?;
