@@ -1,16 +1,25 @@
-// Escaped texts: letters after a backslash stand for single bytes, and a number in braces for a length.
+// Escaped texts: a letter after a backslash stands for one byte, and a number in braces for a length.
+ghost use Rattle.std.specs.Prelude.{◌≡◌, IfOk, OnOk, Ok};
+ghost use Rattle.std.specs.Result.{MatchResult};
+ghost use Rattle.answer_table.specs.Escapes.{escaped, padded, decoding, decoded};
+
 use std::alloc::{AllocError, Global};
+
+// The longest length that a number asks for.
+const LONGEST: usize = 70000;
 
 // Where the decoder stands inside an escape.
 #[derive(Clone, Copy)]
-enum Decoding {
+pub enum Decoding {
     Plain,
     Escape,
     Count(usize),
 }
 
 // The byte that a letter stands for after a backslash.
-fn escaped(letter: u8) -> u8 {
+fn escaped(letter: u8) -> u8
+    ensures { result ≡ escaped letter }
+{
     match letter {
         b'n' => 10,
         b'r' => 13,
@@ -23,13 +32,17 @@ fn escaped(letter: u8) -> u8 {
 }
 
 // Repeats the last byte until there are `count`.
-fn pad(out: &mut Vec<u8>, count: usize) -> Result<(), AllocError> {
+fn pad(out: &mut Vec<u8>, count: usize) -> Result<(), AllocError>
+    ensures { OnOk result (out.new.items ≡ padded out.old.items count) }
+{
     let last = out.last().copied().unwrap_or(b'\n');
     out.resize(count.max(out.len()), last)
 }
 
 // One byte of an escaped text.
-fn step(out: &mut Vec<u8>, state: Decoding, byte: u8) -> Result<Decoding, AllocError> {
+fn step(out: &mut Vec<u8>, state: Decoding, byte: u8) -> Result<Decoding, AllocError>
+    ensures { IfOk result (λ next. (out.new.items, next) ≡ decoding (out.old.items, state) byte) }
+{
     match state {
         Decoding::Plain => {
             if byte == b'\\' {
@@ -47,17 +60,20 @@ fn step(out: &mut Vec<u8>, state: Decoding, byte: u8) -> Result<Decoding, AllocE
         }
         Decoding::Count(count) => {
             if byte.is_ascii_digit() {
-                let digit = usize::from(byte.wrapping_sub(b'0'));
-                return Ok(Decoding::Count(count.saturating_mul(10).saturating_add(digit)));
+                let digit = usize::from(byte - b'0');
+                let count = count.saturating_mul(10).saturating_add(digit);
+                return Ok(Decoding::Count(count.min(LONGEST)));
             }
-            pad(out, count.min(70000))?;
+            pad(out, count)?;
             Ok(Decoding::Plain)
         }
     }
 }
 
 // The text that an escaped text stands for.
-pub fn decode(heap: Global, text: &[u8]) -> Result<Vec<u8>, AllocError> {
+pub fn decode(heap: Global, text: &[u8]) -> Result<Vec<u8>, AllocError>
+    ensures { IfOk result (λ v. v.items ≡ decoded text.now) }
+{
     let mut out = Vec::new(heap);
     let mut state = Decoding::Plain;
     for byte in text {

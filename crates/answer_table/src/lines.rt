@@ -1,25 +1,37 @@
 // The lines of a table, and their answers.
+ghost use Rattle.std.specs.Prelude.{◌≡◌, ◌≤◌, [], length, vec_items, IfOk, MatchOption, ◌==◌};
+ghost use Rattle.std.specs.List.{FoldsTo, position, position_or_len};
+ghost use Rattle.answer_table.specs.Tables.{CutsAt, whole_lines, AnswersLine, MakesMore};
+
 use crate::decode;
 use std::alloc::{AllocError, Global};
 use texts::Texts;
 
-// The terms and the day of a line, still escaped: what stands before its first space, and what stands after it.
-fn parts(line: &[u8]) -> (&[u8], &[u8]) {
-    match line.iter().position(|byte| *byte == b' ') {
-        Some(space) => (&line[..space], &line[space + 1..]),
-        None => (line, &[]),
-    }
+// Where such a byte stands first.
+fn first_place(text: &[u8], byte: u8) -> Option<usize>
+    ensures { result ≡ position (λ c. c == byte) text.now }
+{
+    text.iter().position(|c| *c == byte)
 }
 
-// The answer to one line.
+// What stands before the first such byte, and what stands after it.
+fn split_once(text: &[u8], byte: u8) -> Option<(&[u8], &[u8])>
+    ensures { MatchOption result (length text.now ≤ position_or_len (λ c. c == byte) text.now) (λ p. CutsAt byte text.now p.0.now p.1.now) }
+{
+    let place = first_place(text, byte)?;
+    Some((&text[..place], &text[place + 1..]))
+}
+
+// The answer to one line: its terms stand before its first space, and its day after it.
 fn answer_line<F: Fn(Global, Texts<'_>) -> Result<Vec<u8>, AllocError>>(
     heap: Global,
     line: &[u8],
     answer: &F,
 ) -> Result<Vec<u8>, AllocError>
     requires { F.IsAlwaysCallable answer.now }
+    ensures { IfOk result (λ v. AnswersLine (λ texts r. F.post answer.now heap texts r) line.now v) }
 {
-    let (terms, day) = parts(line);
+    let (terms, day) = split_once(line, b' ').unwrap_or((line, &[]));
     let terms = decode(heap, terms)?;
     let day = decode(heap, day)?;
     answer(
@@ -38,13 +50,14 @@ pub fn answers<F: Fn(Global, Texts<'_>) -> Result<Vec<u8>, AllocError>>(
     answer: F,
 ) -> Result<Vec<u8>, AllocError>
     requires { F.IsAlwaysCallable answer }
+    ensures { IfOk result (λ v. FoldsTo (MakesMore vec_items (λ texts r. F.post answer heap texts r)) [] (whole_lines table.now) v.items) }
 {
-    let mut all = Vec::new(heap);
-    for piece in table.split_inclusive(|byte| *byte == b'\n') {
-        if let Some(line) = piece.strip_suffix(b"\n") {
-            all.extend_from_slice(answer_line(heap, line, &answer)?.as_slice())?;
-            all.push(b'\n')?;
-        }
+    let mut made = Vec::new(heap);
+    let mut rest = table;
+    while let Some((line, after)) = split_once(rest, b'\n') {
+        made.extend_from_slice(answer_line(heap, line, &answer)?.as_slice())?;
+        made.push(b'\n')?;
+        rest = after;
     }
-    Ok(all)
+    Ok(made)
 }

@@ -1,9 +1,9 @@
 -- What texts can say is within the makers' ranges. Assumes nothing.
-use Rattle.std.proofs.Common.{◌≡◌, ℕ, ◌+◌, ◌*◌, ◌^◌, ◌≤◌, Bool, true, false, ◌&&◌, List, [], ◌∷◌, length, IfOk, Some, None, Ok, Err, Result, sym, refl, ap, ◌∙◌, subst, mul_assoc, mul-le-mul, mul-le-mul_left, arith, length-append}
+use Rattle.std.proofs.Common.{◌≡◌, ℕ, ◌+◌, ◌*◌, ◌≤◌, Bool, true, false, ◌&&◌, List, [], ◌∷◌, length, Some, None, Ok, Err, Result, sym, refl, ◌∙◌, subst, mul_assoc, mul-le-mul, mul-le-mul_left, arith}
 use Rattle.std.specs.List.{AllByRecursion}
 use Rattle.std.proofs.lemmas.Bool.{le-leb, cond-true}
 use Rattle.fault.specs.declared.Fault.{Fault}
-use Rattle.ladder.specs.Makers.{within, halving_fault, divisors_fault, listed_fault}
+use Rattle.ladder.specs.Makers.{within, divisors_fault, listed_fault}
 use Rattle.ladder.specs.Slacks.{product}
 use Rattle.reader.specs.declared.byte_kind.ByteKind.TheVariants.{Mark}
 use Rattle.reader.specs.Bytes.{of_kind}
@@ -12,13 +12,11 @@ use Rattle.fault.specs.declared.failure.Failure.TheVariants.{Faulty, NoMemory}
 use Rattle.report.specs.declared.Report.{Report}
 use Rattle.wire.specs.Makers.{bytes_fault, marked_fault}
 use Rattle.terms.specs.declared.model.PostChoice.TheVariants.{Bit}
-use Rattle.terms.specs.Models.{TermsModel, halving, listed}
+use Rattle.terms.specs.Models.{TermsModel, listed}
 use Rattle.terms.specs.Written.{LadderInRange}
 use Rattle.day.specs.Models.{DayModel}
-use Rattle.day.specs.Written.{day_text}
-use Rattle.texts.specs.Both.{Admissible, read_both}
 use Rattle.answering.specs.Reports.{LotsReport, FramesOf}
-use Rattle.answering.specs.Answers.{Playable, ReportPrinted, PrintedAs, Printed}
+use Rattle.answering.specs.Answers.{Playable}
 use Rattle.answering.specs.Playing.{BitReported, ReportedOn}
 use Rattle.window.specs.Windows.{setting_for}
 use Rattle.report.specs.Models.{report_model}
@@ -30,11 +28,7 @@ both false b e f = e
 in_range : (low high n : ℕ) → low ≤ n → n ≤ high → within low high n ≡ true
 in_range low high n l h = both _ _ (le-leb low n l) (le-leb n high h)
 
--- the number of steps of a halving ladder
-pub halving_none : (g e : ℕ) → 1 ≤ g → g ≤ 8388608 → LadderInRange g (halving e) → halving_fault g e ≡ None
-halving_none g e low high r =
-    cond-true _ _ _ (in_range 1 8388608 g low high) ∙ (cond-true _ _ _ (in_range 1 16 e r.0 r.1) ∙ cond-true _ _ _ (le-leb (g * 2 ^ e) 16777216 r.2))
-
+-- the divisors of a listed ladder
 product_some : (ds : List ℕ) → AllByRecursion (λ d. (2 ≤ d) × (d ≤ 16)) ds → 1 ≤ product ds
 product_some [] r = omega arith
 product_some (d ∷ ds) r = let p : 1 * 1 ≤ d * product ds = mul-le-mul {n₁ = 1} {m₁ = 1} (omega (arith, r.0.0)) (product_some ds r.1) in omega arith
@@ -76,6 +70,3 @@ no_fault f e = let z : ◌≡◌ {A = ℕ} 0 1 = cc in absurd (omega arith)
 
 pub listed_refused : (x : TermsModel) (y : DayModel) (ds : List ℕ) (f : Fault) → x.ladder ≡ listed ds → Some f ≡ listed_fault x.grain ds → Playable x y → ⊥
 listed_refused x y ds f is e p = no_fault f (e ∙ listed_none x.grain ds p.terms.grain_low p.terms.grain_high (subst (LadderInRange x.grain) is p.terms.ladder))
-
-pub halving_refused : (x : TermsModel) (y : DayModel) (steps : ℕ) (f : Fault) → x.ladder ≡ halving steps → Some f ≡ halving_fault x.grain steps → Playable x y → ⊥
-halving_refused x y steps f is e p = no_fault f (e ∙ halving_none x.grain steps p.terms.grain_low p.terms.grain_high (subst (LadderInRange x.grain) is p.terms.ladder))

@@ -51,6 +51,7 @@ pub fn text_or_fault(
 }
 
 // The ladder as the terms write it.
+// Kept: no `Display`, since it writes text, and the words are bytes that reading and writing share.
 fn push_ladder(lines: &mut Lines, ladder: &LadderChoice) -> Result<(), AllocError>
     ensures { OnOk result (lines.new ≡ lines.old ++ ladder_text (ladder_model ladder.now)) }
 {
@@ -67,6 +68,7 @@ fn push_ladder(lines: &mut Lines, ladder: &LadderChoice) -> Result<(), AllocErro
 }
 
 // The post as the terms write it.
+// Kept: no `Display`, for the same reason as at the ladder.
 fn post_text(post: PostChoice) -> &'static [u8]
     ensures { result.now ≡ post_text post }
 {

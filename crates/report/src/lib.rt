@@ -21,6 +21,7 @@ pub struct Report {
     pub frames: FrameCount,
     pub accepted: usize,
     pub late: usize,
+    // Kept: two lists, since the report prints each of them as one line.
     pub credits: Vec<u32>,
     pub remainders: Vec<u32>,
 }

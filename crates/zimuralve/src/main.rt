@@ -1,7 +1,7 @@
 // The program: reads terms.txt and day.txt in the current folder, and prints what they say or their first fault.
 #![tactic(auto)]
 
-use anyhow::anyhow;
+use anyhow::Context;
 use printing::answer;
 use std::io::{ErrorKind, Read, Write};
 use std::process::ExitCode;
@@ -17,29 +17,16 @@ fn read_file(rt: &HostRuntime, path: &str) -> io::Result<Vec<u8>> {
     match fs::open(rt, path) {
         Ok(file) => {
             file.take(READ_LIMIT).read_to_end(&mut bytes)?;
-            Ok(bytes)
         }
-        Err(error) => {
-            if error.kind() == ErrorKind::NotFound {
-                Ok(bytes)
-            } else {
-                Err(error)
-            }
-        }
+        Err(error) if error.kind() == ErrorKind::NotFound => {}
+        Err(error) => return Err(error),
     }
-}
-
-// The same, with a message that names the file where it could not be read.
-fn read_named(rt: &HostRuntime, path: &str) -> anyhow::Result<Vec<u8>> {
-    match read_file(rt, path) {
-        Ok(bytes) => Ok(bytes),
-        Err(error) => Err(anyhow!(format!(in rt.alloc(); "{path}: {error}")?)),
-    }
+    Ok(bytes)
 }
 
 fn run(rt: &HostRuntime) -> anyhow::Result<()> {
-    let terms = read_named(rt, "terms.txt")?;
-    let day = read_named(rt, "day.txt")?;
+    let terms = read_file(rt, "terms.txt").context("terms.txt")?;
+    let day = read_file(rt, "day.txt").context("day.txt")?;
     let texts = Texts {
         terms: terms.as_slice(),
         day: day.as_slice(),
@@ -56,7 +43,7 @@ fn main(rt: HostRuntime) -> ExitCode {
     match run(&rt) {
         Ok(()) => ExitCode::SUCCESS,
         Err(error) => {
-            let _ = eprintln!(rt; "zimuralve: {error}");
+            let _ = eprintln!(rt; "zimuralve: {error:#}");
             ExitCode::FAILURE
         }
     }

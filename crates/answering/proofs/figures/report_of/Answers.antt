@@ -10,9 +10,9 @@ returns g c =
     let books = books_of g.P.Post.lanes w in
     let offices = c.office_count-offices.ensures in
     let credits : vec_items c.in_ok-credits.credits ≡ books.credits =
-        c.in_ok-credits.ensures books.credits (column_long w.checked (λ o. o.credit) ∙ sym offices)
-        (λ place r less p. let said : r ≡ asked (place + 1) b (slice_index books.credits (place + 1 - 1)) = search rules in said ∙ answered b books.credits place (omega arith)) in
+    c.in_ok-credits.ensures books.credits (column_long w.checked (λ o. o.credit) ∙ sym offices)
+    (λ place r less p. let said : r ≡ asked (place + 1) b (slice_index books.credits (place + 1 - 1)) = search rules in said ∙ answered b books.credits place (omega arith)) in
     let remainders : vec_items c.in_ok-remainders.remainders ≡ books.remainders =
-        c.in_ok-remainders.ensures books.remainders (column_long w.checked (λ o. o.remainder) ∙ sym offices)
-        (λ place r less p. let said : r ≡ asked (place + 1) b (slice_index books.remainders (place + 1 - 1)) = search rules in said ∙ answered b books.remainders place (omega arith)) in
+    c.in_ok-remainders.ensures books.remainders (column_long w.checked (λ o. o.remainder) ∙ sym offices)
+    (λ place r less p. let said : r ≡ asked (place + 1) b (slice_index books.remainders (place + 1 - 1)) = search rules in said ∙ answered b books.remainders place (omega arith)) in
     cc
