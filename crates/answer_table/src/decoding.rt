@@ -1,6 +1,5 @@
 // Escaped texts: a letter after a backslash stands for one byte, and a number in braces for a length.
-ghost use Rattle.std.specs.Prelude.{◌≡◌, IfOk, OnOk, Ok};
-ghost use Rattle.std.specs.Result.{MatchResult};
+ghost use Rattle.std.specs.Prelude.{◌≡◌, IfOk, OnOk};
 ghost use Rattle.answer_table.specs.Escapes.{escaped, padded, decoding, decoded};
 
 use std::alloc::{AllocError, Global};
@@ -10,7 +9,7 @@ const LONGEST: usize = 70000;
 
 // Where the decoder stands inside an escape.
 #[derive(Clone, Copy)]
-pub enum Decoding {
+enum Decoding {
     Plain,
     Escape,
     Count(usize),
