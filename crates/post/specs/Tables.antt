@@ -1,5 +1,5 @@
--- The lanes that a table holds: all of them, and those that a number of offices uses. Assumes nothing.
-use Rattle.std.specs.Prelude.{ℕ, ◌*◌, List, map, take}
+-- The lanes that a table holds. Assumes nothing.
+use Rattle.std.specs.Prelude.{◌*◌, List, map, take}
 use Rattle.queue.specs.Queues.{held}
 use Rattle.post.specs.Lanes.{Lane}
 use Rattle.post.specs.declared.slot.Slot.{Slot}
@@ -8,10 +8,6 @@ use Rattle.post.specs.declared.lane_table.LaneTable.{LaneTable}
 abbrev pub shown : Slot → Lane
 shown s = record { waiting = held s.queue; sent = s.sent }
 
--- All 128 lanes.
-abbrev pub slots_shown : LaneTable → List Lane
-slots_shown t = map shown t.slots
-
--- Two lanes for each office; all of the table's where there are more offices than it has lanes for.
-abbrev pub used : (offices : ℕ) → LaneTable → List Lane
-used offices t = take (2 * offices) (slots_shown t)
+-- Two lanes for each office.
+abbrev pub lanes_of : LaneTable → List Lane
+lanes_of t = take (2 * t.offices.number) (map shown t.slots)

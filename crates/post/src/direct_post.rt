@@ -3,8 +3,8 @@ ghost use Rattle.std.specs.Prelude.{◌≡◌, ◌*◌, replicate, IfOk};
 ghost use Rattle.std.specs.Result.{result_err};
 ghost use Rattle.post.specs.Lanes.{no_lane};
 ghost use Rattle.post.specs.Makers.{post_fault};
-ghost use Rattle.post.specs.Tables.{used};
-ghost use Rattle.post.specs.Shown.{used_sound};
+ghost use Rattle.post.specs.Tables.{lanes_of};
+ghost use Rattle.post.specs.Shown.{table_sound};
 ghost use Rattle.std.proofs.Common.{rules};
 
 use crate::Post;
@@ -14,7 +14,6 @@ use offices::OfficeCount;
 
 #[derive(Drop)]
 pub struct DirectPost {
-    offices: OfficeCount,
     table: LaneTable,
 }
 
@@ -22,45 +21,44 @@ impl DirectPost {
     // An unused post; refuses a number of offices out of its range.
     pub fn new(offices: u32) -> Result<DirectPost, Fault>
         ensures fault { result_err result ≡ post_fault offices }
-        ensures post { IfOk result (λ p. (p.offices.number ≡ offices) × (used p.offices.number p.table ≡ replicate (2 * offices) no_lane)) }
+        ensures post { IfOk result (λ p. (p.table.offices.number ≡ offices) × (lanes_of p.table ≡ replicate (2 * offices) no_lane)) }
     {
         Ok(DirectPost {
-            offices: OfficeCount::new(Layer::Post, offices)?,
-            table: LaneTable::new(),
+            table: LaneTable::new(OfficeCount::new(Layer::Post, offices)?),
         })
     }
 }
 
 impl Post for DirectPost {
-    ghost offices = { λ p. p.offices.number };
+    ghost offices = { λ p. p.table.offices.number };
 
-    ghost lanes = { λ p. used p.offices.number p.table };
+    ghost lanes = { λ p. lanes_of p.table };
 
     ghost became = { λ _ _. Unit {0} };
 
-    ghost sound = { λ p. used_sound p.offices.number p.table p.offices.some p.offices.few };
+    ghost sound = { λ p. table_sound p.table };
 
     ghost stays = { Prim.search rules };
 
     ghost joins = { Prim.search rules };
 
     fn office_count(&self) -> u32 {
-        self.offices.number()
+        self.table.office_count()
     }
 
     fn sent_count(&self, lane: u32) -> Result<u32, Fault> {
-        self.table.sent_count(self.offices.number(), lane)
+        self.table.sent_count(lane)
     }
 
     fn waiting_count(&self, lane: u32) -> Result<u32, Fault> {
-        self.table.waiting_count(self.offices.number(), lane)
+        self.table.waiting_count(lane)
     }
 
     fn send(&mut self, lane: u32, byte: u8) -> Result<(), Fault> {
-        self.table.send(self.offices.number(), lane, byte)
+        self.table.send(lane, byte)
     }
 
     fn take(&mut self, lane: u32) -> Result<Option<u8>, Fault> {
-        self.table.take(self.offices.number(), lane)
+        self.table.take(lane)
     }
 }

@@ -28,10 +28,7 @@ impl MessageCount {
 pub fn sent_on<P: Post>(post: &P, lane: u32) -> u32
     ensures { result ≡ (lane_of (P.lanes post.now) lane).sent }
 {
-    match post.sent_count(lane) {
-        Ok(count) => count,
-        Err(_) => 0,
-    }
+    post.sent_count(lane).unwrap_or(0)
 }
 
 // The sum of the sent numbers of all lanes.
