@@ -1,25 +1,30 @@
 -- One attempt, turn by turn.
-use Rattle.std.proofs.Common.{◌≡◌, ℕ, zero, suc, ◌+◌, ◌<◌, ◌≤◌, Bool, true, false, cond, not, ◌||◌, List, [], ◌∷◌, ◌++◌, length, replicate, Some, sym, refl, ap, ◌∙◌, inl, inr, append_assoc, arith}
+use Rattle.std.proofs.Common.{◌≡◌, ℕ, zero, suc, ◌+◌, ◌<◌, ◌≤◌, Bool, true, false, cond, not, ◌||◌, List, [], ◌∷◌, ◌++◌, length, replicate, Some, Ok, sym, refl, ap, ◌∙◌, inl, inr, append_assoc, arith}
 use Rattle.std.proofs.lemmas.List.{length_push}
-use Rattle.std.proofs.lemmas.Bool.{le-leb, lt-leb, eq-eqb}
+use Rattle.std.proofs.lemmas.Bool.{cond-true, le-leb, lt-leb, lt-ltb, eq-eqb}
 use Rattle.post.specs.Lanes.{Lane, joined}
 use Rattle.wire.specs.Wires.{WireLane, Outcome, once, lost, twice, arrivals, copies, cost, costs, wire_lane, no_frames, Others, Taken, PlacedBy, PlacesAfter}
-use Rattle.bit_post.specs.Frames.{data_frame, acknowledgement, bit_of, byte_of}
+use Rattle.bit_post.specs.Frames.{data_frame, acknowledgement, bit_of, byte_of, frame_of}
+use Rattle.bit_post.specs.declared.frame.Frame.TheVariants.{Data}
 use Rattle.bit_post.specs.Sends.{attempt, any_arrives}
 use Rattle.bit_post.specs.Sending.{among, waiting_after, same_bit, delivered, MaySend, FarState, Answering, Tried, FarAfter}
 
 -- a frame reads back
-pub bit_back : (s : Bool) (b : ℕ) → b < 256 → bit_of (data_frame s b) ≡ s
+bit_back : (s : Bool) (b : ℕ) → b < 256 → bit_of (data_frame s b) ≡ s
 bit_back true b h = le-leb 256 (b + 256) (omega arith)
 bit_back false b h = lt-leb 256 (b + 0) (omega arith)
 
-pub byte_back : (s : Bool) (b : ℕ) → b < 256 → byte_of (data_frame s b) ≡ b
+byte_back : (s : Bool) (b : ℕ) → b < 256 → byte_of (data_frame s b) ≡ b
 byte_back true b h = omega arith
 byte_back false b h = omega arith
 
-pub data_small : (s : Bool) (b : ℕ) → b < 256 → data_frame s b < 512
+data_small : (s : Bool) (b : ℕ) → b < 256 → data_frame s b < 512
 data_small true b h = omega arith
 data_small false b h = omega arith
+
+pub frame_back : (s : Bool) (b : ℕ) → b < 256 → frame_of (data_frame s b) ≡ Ok (Data s b)
+frame_back s b h =
+    cond-true _ _ _ (lt-ltb (data_frame s b) 512 (data_small s b h)) ∙ ap (λ v. Ok (Data v (byte_of (data_frame s b)))) (bit_back s b h) ∙ ap (λ y. Ok (Data s y)) (byte_back s b h)
 
 pub same_bit_not : (s : Bool) → same_bit s (not s) ≡ false
 same_bit_not true = refl
@@ -102,21 +107,19 @@ among_waiting (lost ∷ os) f = among_waiting os f
 among_waiting (twice ∷ os) f = ap (λ x. x || (x || among f (waiting_after os f))) (eq-eqb f f refl)
 
 module _ (s : Bool) (i k b : ℕ) (ls₀ : List WireLane) (t₀ p₀ : ℕ) (e₀ : Bool) (q₀ : List Lane) where
-  -- what the far end may do with a frame that it took
-  pub answering_frame : (ls ls₁ : List WireLane) (t p f : ℕ) (e : Bool) (q : List Lane) (R : List Outcome → Type 0) → Answering s i k b ls₀ ls t₀ t p₀ p e₀ e q₀ q R → Taken (wire_lane ls i) (Some f) (wire_lane ls₁ i) → f ≡ data_frame s b
-  answering_frame ls ls₁ t p f e q R h taken = (head_of h.left f (data_frame s b) _ (wire_lane ls₁ i).frames taken.0 h.waits).same
+  -- every frame that the far end takes is the data frame
+  pub answering_frame : (ls ls₁ : List WireLane) (t p f : ℕ) (e : Bool) (q : List Lane) (R : List Outcome → Type 0) → b < 256 → Answering s i k b ls₀ ls t₀ t p₀ p e₀ e q₀ q R → Taken (wire_lane ls i) (Some f) (wire_lane ls₁ i) → frame_of f ≡ Ok (Data s b)
+  answering_frame ls ls₁ t p f e q R small h taken = ap frame_of (head_of h.left f (data_frame s b) _ (wire_lane ls₁ i).frames taken.0 h.waits).same ∙ frame_back s b small
 
   pub answering_ready : (os : List Outcome) (e : Bool) (q : List Lane) → FarState s i b os e₀ q₀ e q → (e₀ ≡ s → MaySend q₀ i) → e ≡ s → MaySend q i
   answering_ready [] e q far ready is = rw far.1 (ready (sym far.0 ∙ is))
   answering_ready (o ∷ os) e q far ready is = absurd (not_self s (sym far.0 ∙ is))
 
   -- a frame taken and answered
-  pub answering_more : (ls ls₁ ls₂ : List WireLane) (t t₁ t₂ p f : ℕ) (e e₂ : Bool) (q q₂ : List Lane) (R R₁ R₂ : List Outcome → Type 0) → b < 256 → (k ≡ i → ⊥) → Answering s i k b ls₀ ls t₀ t p₀ p e₀ e q₀ q R → Taken (wire_lane ls i) (Some f) (wire_lane ls₁ i) → Others ls i ls₁ → t₁ ≡ t → (by : PlacedBy ls₁ t₁ k (acknowledgement (bit_of f)) ls₂ t₂ R₁) → ((xs : List Outcome) (o : Outcome) → R xs → R₁ (o ∷ []) → R₂ (xs ++ (o ∷ []))) → e₂ ≡ not (bit_of f) → q₂ ≡ delivered (bit_of f) e q i (byte_of f) → Answering s i k b ls₀ ls₂ t₀ t₂ p₀ (p + 1) e₀ e₂ q₀ q₂ R₂
-  answering_more ls ls₁ ls₂ t t₁ t₂ p f e e₂ q q₂ R R₁ R₂ small apart h taken others calm by join flips delivers =
+  pub answering_more : (ls ls₁ ls₂ : List WireLane) (t t₁ t₂ p f : ℕ) (v : Bool) (y : ℕ) (e e₂ : Bool) (q q₂ : List Lane) (R R₁ R₂ : List Outcome → Type 0) → v ≡ s → y ≡ b → (k ≡ i → ⊥) → Answering s i k b ls₀ ls t₀ t p₀ p e₀ e q₀ q R → Taken (wire_lane ls i) (Some f) (wire_lane ls₁ i) → Others ls i ls₁ → t₁ ≡ t → (by : PlacedBy ls₁ t₁ k (acknowledgement v) ls₂ t₂ R₁) → ((xs : List Outcome) (o : Outcome) → R xs → R₁ (o ∷ []) → R₂ (xs ++ (o ∷ []))) → e₂ ≡ not v → q₂ ≡ delivered v e q i y → Answering s i k b ls₀ ls₂ t₀ t₂ p₀ (p + 1) e₀ e₂ q₀ q₂ R₂
+  answering_more ls ls₁ ls₂ t t₁ t₂ p f v y e e₂ q q₂ R R₁ R₂ bit byte apart h taken others calm by join flips delivers =
       let placed = by.put in
       let head = head_of h.left f (data_frame s b) _ (wire_lane ls₁ i).frames taken.0 h.waits in
-      let bit : bit_of f ≡ s = ap bit_of head.same ∙ bit_back s b small in
-      let byte : byte_of f ≡ b = ap byte_of head.same ∙ byte_back s b small in
       let o = placed.outcome in
       let same : wire_lane ls₁ k ≡ wire_lane ls k = others k apart in
       let long = length_push h.acks o in
@@ -129,11 +132,11 @@ module _ (s : Bool) (i k b : ℕ) (ls₀ : List WireLane) (t₀ p₀ : ℕ) (e�
         left = head.less;
         number = omega (arith, h.number, head.is);
         waits = ap (λ l. l.frames) (placed.others i (λ e. apart (sym e))) ∙ head.rest;
-        answered = placed.joins ∙ ap (λ l. l.frames ++ copies o (acknowledgement (bit_of f))) same ∙ ap (λ x. (wire_lane ls k).frames ++ copies o (acknowledgement x)) bit ∙ ap (λ x. x ++ copies o (acknowledgement s)) h.answered ∙ waiting_push h.acks o (acknowledgement s);
+        answered = placed.joins ∙ ap (λ l. l.frames ++ copies o (acknowledgement v)) same ∙ ap (λ x. (wire_lane ls k).frames ++ copies o (acknowledgement x)) bit ∙ ap (λ x. x ++ copies o (acknowledgement s)) h.answered ∙ waiting_push h.acks o (acknowledgement s);
         places = omega (arith, h.places);
         troubles = omega (arith, h.troubles, placed.spent);
         puts = omega (arith, h.puts);
-        far = far_push s i b h.acks o e₀ e e₂ q₀ q q₂ h.far (flips ∙ ap not bit) (delivers ∙ ap (λ x. delivered x e q i (byte_of f)) bit ∙ ap (delivered s e q i) byte);
+        far = far_push s i b h.acks o e₀ e e₂ q₀ q q₂ h.far (flips ∙ ap not bit) (delivers ∙ ap (λ x. delivered x e q i y) bit ∙ ap (delivered s e q i) byte);
       }
 
   far_end : (r : Bool) (os : List Outcome) (e : Bool) (q : List Lane) → r ≡ any_arrives os → FarState s i b os e₀ q₀ e q → FarAfter r s i b e₀ q₀ e q

@@ -1,4 +1,4 @@
+pub mod SameTable
 pub mod Placing
-pub mod Taking
 pub mod Attempting
 pub mod Retrials

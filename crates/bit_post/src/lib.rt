@@ -3,11 +3,13 @@
 
 ghost use Rattle.std.specs.Prelude.{◌≡◌, ◌*◌, ◌≤◌, length};
 ghost use Rattle.post.specs.Lanes.{all_sent};
-ghost use Rattle.post.specs.Tables.{slots_shown};
+ghost use Rattle.post.specs.Tables.{lanes_of};
 
 use post::LaneTable;
+use wire::Wire;
 
 mod exchange;
+mod frame;
 mod frame_count;
 
 pub use frame_count::FrameCount;
@@ -22,12 +24,13 @@ struct LaneBits {
 
 // A send puts at most 131,072 frames: two, and two for each of 65,535 troubles.
 #[derive(Drop)]
-pub struct BitPost<W> {
+pub struct BitPost<W: Wire> {
     wire: W,
     table: LaneTable,
     bits: [LaneBits; 128],
     frames: u64,
     first_troubles: u32,
     ghost wide: { length bits ≡ 128 },
-    ghost counted: { frames ≤ 131072 * all_sent (slots_shown table) },
+    ghost same_offices: { W.offices wire ≡ table.offices.number },
+    ghost counted: { frames ≤ 131072 * all_sent (lanes_of table) },
 }

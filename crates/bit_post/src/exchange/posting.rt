@@ -2,17 +2,19 @@
 ghost use Rattle.std.specs.Prelude.{◌≡◌, ℕ, ◌+◌, ◌-◌, ◌*◌, ◌<◌, ◌≤◌, List, [], replicate, refl};
 ghost use Rattle.post.specs.Lanes.{no_lane};
 ghost use Rattle.post.specs.Outs.{out};
-ghost use Rattle.post.specs.Tables.{slots_shown, used};
+ghost use Rattle.post.specs.Tables.{lanes_of};
 ghost use Rattle.wire.specs.Wires.{wire_lane, no_frames};
 ghost use Rattle.bit_post.specs.Became.{Became, FramesWithin};
 ghost use Rattle.bit_post.specs.Counted.{counts};
 ghost use Rattle.bit_post.specs.Lists.{send_list};
-ghost use Rattle.post.specs.Shown.{used_sound};
+ghost use Rattle.post.specs.Shown.{table_sound};
 ghost use Rattle.bit_post.specs.Becoming.{became_same, became_joins};
 
-use super::{drain, send_until};
+use super::drain;
+use super::sending::Sending;
 use crate::{BitPost, FrameCount, LaneBits};
-use fault::Fault;
+use fault::{Fault, Layer};
+use offices::OfficeCount;
 use post::{LaneTable, Post};
 use wire::Wire;
 
@@ -23,18 +25,18 @@ impl<W: Wire> BitPost<W> {
         ensures troubles { W.Wire.troubles result.wire ≡ W.Wire.troubles wire }
         ensures rests { W.Wire.ran wire result.wire [] }
         ensures dropped { (i : ℕ) → i < 2 * W.Wire.offices wire → wire_lane (W.Wire.lanes result.wire) i ≡ no_frames }
-        ensures lanes { slots_shown result.table ≡ replicate 128 no_lane }
+        ensures lanes { lanes_of result.table ≡ replicate (2 * W.Wire.offices wire) no_lane }
         ensures frames { result.frames ≡ 0 }
         ensures first { result.first_troubles ≡ W.Wire.troubles wire }
     {
-        let lanes = 2 * wire.office_count();
-        for lane in 0..lanes {
+        let offices = OfficeCount::new(Layer::Post, wire.office_count()).unwrap();
+        for lane in 0..2 * offices.number() {
             drain(&mut wire, lane, 0);
         }
         let first_troubles = wire.troubles_left();
         BitPost {
             wire,
-            table: LaneTable::new(),
+            table: LaneTable::new(offices),
             bits: [LaneBits {
                 sending: false,
                 expected: false,
@@ -68,9 +70,9 @@ impl<W: Wire> BitPost<W> {
 
     // Sends bytes on a lane up to the first that is refused. The frames put lie within the bounds of the bytes sent and the troubles spent.
     pub fn send_all(&mut self, lane: u32, bytes: &[u8]) -> Result<(), Fault>
-        ensures became { Became (counts W.Wire.offices W.Wire.troubles self.old) (counts W.Wire.offices W.Wire.troubles self.new) (W.Wire.ran self.old.wire self.new.wire) }
-        ensures did { out (used (W.Wire.offices self.new.wire) self.new.table) result ≡ send_list lane bytes.now (used (W.Wire.offices self.old.wire) self.old.table) }
-        ensures frames { FramesWithin (counts W.Wire.offices W.Wire.troubles self.old) (counts W.Wire.offices W.Wire.troubles self.new) }
+        ensures became { Became (counts W.Wire.troubles self.old) (counts W.Wire.troubles self.new) (W.Wire.ran self.old.wire self.new.wire) }
+        ensures did { out (lanes_of self.new.table) result ≡ send_list lane bytes.now (lanes_of self.old.table) }
+        ensures frames { FramesWithin (counts W.Wire.troubles self.old) (counts W.Wire.troubles self.new) }
     {
         send_each(self, lane, bytes)
     }
@@ -88,43 +90,36 @@ fn send_each<P: Post>(post: &mut P, lane: u32, bytes: &[u8]) -> Result<(), Fault
 }
 
 impl<W: Wire> Post for BitPost<W> {
-    ghost offices = { λ p. W.Wire.offices p.wire };
+    ghost offices = { λ p. p.table.offices.number };
 
-    ghost lanes = { λ p. used (W.Wire.offices p.wire) p.table };
+    ghost lanes = { λ p. lanes_of p.table };
 
-    ghost became = { λ p q. Became (counts W.Wire.offices W.Wire.troubles p) (counts W.Wire.offices W.Wire.troubles q) (W.Wire.ran p.wire q.wire) };
+    ghost became = { λ p q. Became (counts W.Wire.troubles p) (counts W.Wire.troubles q) (W.Wire.ran p.wire q.wire) };
 
-    ghost sound = { λ p. let law = W.Wire.sound p.wire in used_sound _ p.table law.some law.few };
+    ghost sound = { λ p. table_sound p.table };
 
     ghost stays = { λ p. became_same _ _ _ (W.Wire.rests p.wire) refl };
 
     ghost joins = { λ p q r a b. became_joins _ _ _ (W.Wire.ran p.wire q.wire) (W.Wire.ran q.wire r.wire) (W.Wire.ran p.wire r.wire) (W.Wire.goes p.wire q.wire r.wire) a b };
 
     fn office_count(&self) -> u32 {
-        Wire::office_count(&self.wire)
+        self.table.office_count()
     }
 
     fn sent_count(&self, lane: u32) -> Result<u32, Fault> {
-        self.table.sent_count(self.wire.office_count(), lane)
+        self.table.sent_count(lane)
     }
 
     fn waiting_count(&self, lane: u32) -> Result<u32, Fault> {
-        self.table.waiting_count(self.wire.office_count(), lane)
+        self.table.waiting_count(lane)
     }
 
     fn send(&mut self, lane: u32, byte: u8) -> Result<(), Fault> {
-        let offices = self.wire.office_count();
-        self.table.check_send(offices, lane)?;
+        self.table.check_send(lane)?;
         let bits = self.bits[lane as usize];
         let mut expected = bits.expected;
-        let puts = send_until(
-            &mut self.wire,
-            &mut self.table,
-            &mut expected,
-            lane,
-            bits.sending,
-            byte,
-        );
+        let sending = Sending::new(lane, bits.sending, byte);
+        let puts = sending.until_acknowledged(&mut self.wire, &mut self.table, &mut expected);
         self.bits[lane as usize] = LaneBits {
             sending: !bits.sending,
             expected,
@@ -133,12 +128,7 @@ impl<W: Wire> Post for BitPost<W> {
         Ok(())
     }
 
-    // Nothing is touched unless a byte waits.
     fn take(&mut self, lane: u32) -> Result<Option<u8>, Fault> {
-        let offices = self.wire.office_count();
-        if self.table.waiting_count(offices, lane)? == 0 {
-            return Ok(None);
-        }
-        self.table.take(offices, lane)
+        self.table.take(lane)
     }
 }

@@ -1,8 +1,11 @@
-use Rattle.std.proofs.Common.{[], sym, ap, ◌∙◌, subst}
+use Rattle.std.proofs.Common.{◌*◌, [], sym, ap, ◌∙◌, subst}
+use Rattle.post.specs.Lanes.{Unused}
+use Rattle.post.specs.Tables.{lanes_of}
+use Rattle.post.specs.Sends.{unused_new}
 use Rattle.bit_post.specs.Counted.{counts}
 use Rattle.window.specs.Windows.{setting_for}
 use Rattle.playing.specs.Frames.{FramesByAttempts}
-use Rattle.playing.proofs.Framing.{new_sent, new_unused, frames_since}
+use Rattle.playing.proofs.Framing.{new_sent, frames_since}
 use Rattle.playing.proofs.over_wire.play_over_wire.Goals as goal
 
 pub returns : goal.returns
@@ -11,14 +14,13 @@ returns g c =
     let first = c.args.wire in
     let p = c.new.result in
     let q = c.play.result.window.post in
-    let few = (g.met.W.Wire.sound p.wire).few in
     let ladder = c.args.ladder in
     record {
-      setting = c.play.ensures.setting ∙ ap (λ k. setting_for k (g.L.Ladder.steps ladder) (g.L.Ladder.slack ladder)) c.new.ensures.offices;
-      day = c.play.ensures.day (new_unused (w.offices p.wire) p.table few c.new.ensures.lanes);
-      frames = subst (λ t. FramesByAttempts (counts w.offices w.troubles q).sent q.frames t (w.troubles q.wire) (w.ran first q.wire)) c.new.ensures.troubles
-          (frames_since (counts w.offices w.troubles p) (counts w.offices w.troubles q) (w.ran p.wire q.wire) (w.ran first q.wire)
+      setting = c.play.ensures.setting ∙ ap (λ k. setting_for k (g.L.Ladder.steps ladder) (g.L.Ladder.slack ladder)) (sym p.same_offices ∙ c.new.ensures.offices);
+      day = c.play.ensures.day (subst Unused (sym c.new.ensures.lanes) (unused_new (2 * w.offices first)));
+      frames = subst (λ t. FramesByAttempts (counts w.troubles q).sent q.frames t (w.troubles q.wire) (w.ran first q.wire)) c.new.ensures.troubles
+          (frames_since (counts w.troubles p) (counts w.troubles q) (w.ran p.wire q.wire) (w.ran first q.wire)
           (λ xs r. g.met.W.Wire.goes first p.wire q.wire [] xs c.new.ensures.rests r)
-          (record { frames = c.new.ensures.frames; sent = new_sent (w.offices p.wire) p.table few c.new.ensures.lanes; first = c.new.ensures.first ∙ sym c.new.ensures.troubles })
+          (record { frames = c.new.ensures.frames; sent = new_sent (2 * w.offices first) (lanes_of p.table) c.new.ensures.lanes; first = c.new.ensures.first ∙ sym c.new.ensures.troubles })
           c.play.ensures.became);
     }
