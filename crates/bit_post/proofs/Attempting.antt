@@ -1,13 +1,13 @@
 -- One attempt, turn by turn.
-use Rattle.std.proofs.Common.{◌≡◌, ℕ, zero, suc, ◌+◌, ◌<◌, ◌≤◌, Bool, true, false, cond, not, ◌||◌, List, [], ◌∷◌, ◌++◌, length, replicate, Some, Ok, sym, refl, ap, ◌∙◌, inl, inr, append_assoc, arith}
+use Rattle.std.proofs.Common.{◌≡◌, ℕ, zero, suc, ◌+◌, ◌<◌, ◌≤◌, Bool, true, false, cond, not, ◌||◌, List, [], ◌∷◌, ◌++◌, length, replicate, Some, Ok, sym, refl, ap, ◌∙◌, append_assoc, arith}
 use Rattle.std.proofs.lemmas.List.{length_push}
 use Rattle.std.proofs.lemmas.Bool.{cond-true, le-leb, lt-leb, lt-ltb, eq-eqb}
 use Rattle.post.specs.Lanes.{Lane, joined}
-use Rattle.wire.specs.Wires.{WireLane, Outcome, once, lost, twice, arrivals, copies, cost, costs, wire_lane, no_frames, Others, Taken, PlacedBy, PlacesAfter}
+use Rattle.wire.specs.Wires.{WireLane, Outcome, once, lost, twice, arrivals, copies, cost, costs, wire_lane, Others, Taken, PlacedBy, PlacesAfter}
 use Rattle.bit_post.specs.Frames.{data_frame, acknowledgement, bit_of, byte_of, frame_of}
 use Rattle.bit_post.specs.declared.frame.Frame.TheVariants.{Data}
 use Rattle.bit_post.specs.Sends.{attempt, any_arrives}
-use Rattle.bit_post.specs.Sending.{among, waiting_after, same_bit, delivered, MaySend, FarState, Answering, Tried, FarAfter}
+use Rattle.bit_post.specs.Sending.{among, waiting_after, same_bit, delivered, FarState, Answering, Tried}
 
 -- a frame reads back
 bit_back : (s : Bool) (b : ℕ) → b < 256 → bit_of (data_frame s b) ≡ s
@@ -30,10 +30,6 @@ pub same_bit_not : (s : Bool) → same_bit s (not s) ≡ false
 same_bit_not true = refl
 same_bit_not false = refl
 
-pub not_self : (s : Bool) → not s ≡ s → ⊥
-not_self true e = let z : ◌≡◌ {A = ℕ} 0 1 = cc in omega arith
-not_self false e = let z : ◌≡◌ {A = ℕ} 0 1 = cc in omega arith
-
 -- the first of a row of one frame
 pub record Head (left f d : ℕ) (ys : List ℕ) : Type 0 where
   pub less : ℕ
@@ -49,17 +45,7 @@ pub none_left : (left d : ℕ) → [] ≡ replicate left d → left ≡ 0
 none_left zero d e = refl
 none_left (suc n) d e = let z : ◌≡◌ {A = ℕ} 0 1 = cc in absurd (omega arith)
 
-copies_row : (o : Outcome) (f : ℕ) → copies o f ≡ replicate (arrivals o) f
-copies_row once f = refl
-copies_row lost f = refl
-copies_row twice f = refl
-
-pub arrivals_few : (o : Outcome) → arrivals o ≤ 2
-arrivals_few once = omega arith
-arrivals_few lost = omega arith
-arrivals_few twice = omega arith
-
-pub count : (o : Outcome) (f : ℕ) → length (copies o f) ≡ arrivals o
+count : (o : Outcome) (f : ℕ) → length (copies o f) ≡ arrivals o
 count once f = refl
 count lost f = refl
 count twice f = refl
@@ -84,23 +70,7 @@ places_more once p q h = omega arith
 places_more lost p q h = h
 places_more twice p q h = h
 
--- before the first frame is taken
-pub answering_none : (s : Bool) (i k b : ℕ) (ls : List WireLane) (o : Outcome) (t p : ℕ) (e : Bool) (q : List Lane) (R : List Outcome → Type 0) → R [] → (wire_lane ls i).frames ≡ copies o (data_frame s b) → wire_lane ls k ≡ no_frames → Answering s i k b ls ls t t p p e e q q R
-answering_none s i k b ls o t p e q R run waits clean =
-    record {
-      acks = [];
-      wire_ran = run;
-      left = length (wire_lane ls i).frames;
-      number = omega arith;
-      waits = waits ∙ copies_row o (data_frame s b) ∙ ap (λ n. replicate n (data_frame s b)) (sym (ap length waits ∙ count o (data_frame s b)));
-      answered = ap (λ l. l.frames) clean;
-      places = rw clean (omega arith);
-      troubles = omega arith;
-      puts = omega arith;
-      far = (refl, refl);
-    }
-
-pub among_waiting : (os : List Outcome) (f : ℕ) → among f (waiting_after os f) ≡ any_arrives os
+among_waiting : (os : List Outcome) (f : ℕ) → among f (waiting_after os f) ≡ any_arrives os
 among_waiting [] f = refl
 among_waiting (once ∷ os) f = ap (λ x. x || among f (waiting_after os f)) (eq-eqb f f refl)
 among_waiting (lost ∷ os) f = among_waiting os f
@@ -110,10 +80,6 @@ module _ (s : Bool) (i k b : ℕ) (ls₀ : List WireLane) (t₀ p₀ : ℕ) (e�
   -- every frame that the far end takes is the data frame
   pub answering_frame : (ls ls₁ : List WireLane) (t p f : ℕ) (e : Bool) (q : List Lane) (R : List Outcome → Type 0) → b < 256 → Answering s i k b ls₀ ls t₀ t p₀ p e₀ e q₀ q R → Taken (wire_lane ls i) (Some f) (wire_lane ls₁ i) → frame_of f ≡ Ok (Data s b)
   answering_frame ls ls₁ t p f e q R small h taken = ap frame_of (head_of h.left f (data_frame s b) _ (wire_lane ls₁ i).frames taken.0 h.waits).same ∙ frame_back s b small
-
-  pub answering_ready : (os : List Outcome) (e : Bool) (q : List Lane) → FarState s i b os e₀ q₀ e q → (e₀ ≡ s → MaySend q₀ i) → e ≡ s → MaySend q i
-  answering_ready [] e q far ready is = rw far.1 (ready (sym far.0 ∙ is))
-  answering_ready (o ∷ os) e q far ready is = absurd (not_self s (sym far.0 ∙ is))
 
   -- a frame taken and answered
   pub answering_more : (ls ls₁ ls₂ : List WireLane) (t t₁ t₂ p f : ℕ) (v : Bool) (y : ℕ) (e e₂ : Bool) (q q₂ : List Lane) (R R₁ R₂ : List Outcome → Type 0) → v ≡ s → y ≡ b → (k ≡ i → ⊥) → Answering s i k b ls₀ ls t₀ t p₀ p e₀ e q₀ q R → Taken (wire_lane ls i) (Some f) (wire_lane ls₁ i) → Others ls i ls₁ → t₁ ≡ t → (by : PlacedBy ls₁ t₁ k (acknowledgement v) ls₂ t₂ R₁) → ((xs : List Outcome) (o : Outcome) → R xs → R₁ (o ∷ []) → R₂ (xs ++ (o ∷ []))) → e₂ ≡ not v → q₂ ≡ delivered v e q i y → Answering s i k b ls₀ ls₂ t₀ t₂ p₀ (p + 1) e₀ e₂ q₀ q₂ R₂
@@ -139,22 +105,16 @@ module _ (s : Bool) (i k b : ℕ) (ls₀ : List WireLane) (t₀ p₀ : ℕ) (e�
         far = far_push s i b h.acks o e₀ e e₂ q₀ q q₂ h.far (flips ∙ ap not bit) (delivers ∙ ap (λ x. delivered x e q i y) bit ∙ ap (delivered s e q i) byte);
       }
 
-  far_end : (r : Bool) (os : List Outcome) (e : Bool) (q : List Lane) → r ≡ any_arrives os → FarState s i b os e₀ q₀ e q → FarAfter r s i b e₀ q₀ e q
-  far_end r [] e q is far = inr (is, far.0, far.1)
-  far_end r (o ∷ os) e q is far = inl far
-
   -- no frame is left, and the sender has taken the acknowledgements
-  pub answering_all : (ls ls₁ : List WireLane) (t t' u p p' : ℕ) (e : Bool) (q : List Lane) (o : Outcome) (r : Bool) (R R' : List Outcome → Type 0) → ((xs : List Outcome) → R xs → R' (o ∷ xs)) → (k ≡ i → ⊥) → (wire_lane ls₀ i).frames ≡ copies o (data_frame s b) → Answering s i k b ls₀ ls t₀ t p₀ p e₀ e q₀ q R → (wire_lane ls i).frames ≡ [] → Others ls i ls₁ → r ≡ among (acknowledgement s) (wire_lane ls₁ k).frames → t' ≡ t₀ + cost o → u ≡ t → p₀ ≡ p' + 1 → Tried r t' u p' p R' × FarAfter r s i b e₀ q₀ e q
+  pub answering_all : (ls ls₁ : List WireLane) (t t' u p p' : ℕ) (e : Bool) (q : List Lane) (o : Outcome) (r : Bool) (R R' : List Outcome → Type 0) → ((xs : List Outcome) → R xs → R' (o ∷ xs)) → (k ≡ i → ⊥) → (wire_lane ls₀ i).frames ≡ copies o (data_frame s b) → Answering s i k b ls₀ ls t₀ t p₀ p e₀ e q₀ q R → (wire_lane ls i).frames ≡ [] → Others ls i ls₁ → r ≡ among (acknowledgement s) (wire_lane ls₁ k).frames → t' ≡ t₀ + cost o → u ≡ t → p₀ ≡ p' + 1 → Tried r t' u p' p R'
   answering_all ls ls₁ t t' u p p' e q o r R R' join apart first h none others found paid calm puts =
       let gone = none_left h.left (data_frame s b) (sym none ∙ h.waits) in
       let is : r ≡ any_arrives h.acks = found ∙ ap (λ l. among (acknowledgement s) l.frames) (others k apart) ∙ ap (among (acknowledgement s)) h.answered ∙ among_waiting h.acks (acknowledgement s) in
-      let all = ap length first ∙ count o (data_frame s b) in (
-        record {
-          outcomes = o ∷ h.acks;
-          wire_ran = join h.acks h.wire_ran;
-          by_attempt = attempt r o h.acks (omega (arith, h.number)) is;
-          troubles = omega (arith, h.troubles);
-          puts = omega (arith, h.puts);
-        },
-        far_end r h.acks e q is h.far,
-      )
+      let all = ap length first ∙ count o (data_frame s b) in
+      record {
+        outcomes = o ∷ h.acks;
+        wire_ran = join h.acks h.wire_ran;
+        by_attempt = attempt r o h.acks (omega (arith, h.number)) is;
+        troubles = omega (arith, h.troubles);
+        puts = omega (arith, h.puts);
+      }

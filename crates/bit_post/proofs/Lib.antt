@@ -1,4 +1,3 @@
 pub mod SameTable
-pub mod Placing
 pub mod Attempting
 pub mod Retrials

@@ -11,6 +11,7 @@ mod posting;
 mod sending;
 
 // The first frame of a lane that there is.
+// Kept: a call tells its lane, and no struct of a wire and a lane is made, since two lanes of one wire are used in turn.
 fn next<W: Wire>(wire: &mut W, lane: u32) -> Option<u16>
     requires { lane < 2 * W.Wire.offices wire.old }
     ensures same { W.Wire.offices wire.new ≡ W.Wire.offices wire.old }
@@ -32,7 +33,7 @@ fn place<W: Wire>(wire: &mut W, lane: u32, frame: Frame)
     wire.put(lane, frame.into()).unwrap();
 }
 
-// Takes every frame off a lane, and tells whether `frame` was among them.
+// Takes every frame off a lane, and tells whether `frame` was among them; where the lane is only to be emptied, any number does.
 fn drain<W: Wire>(wire: &mut W, lane: u32, frame: u16) -> bool
     requires { lane < 2 * W.Wire.offices wire.old }
     ensures same { W.Wire.offices wire.new ≡ W.Wire.offices wire.old }
@@ -44,7 +45,7 @@ fn drain<W: Wire>(wire: &mut W, lane: u32, frame: u16) -> bool
 {
     let mut found = false;
     while let Some(taken) = next(wire, lane) {
-        found = found | (taken == frame);
+        found |= taken == frame;
     }
     found
 }

@@ -1,6 +1,7 @@
-// A number of frames: a type of its own, so that no sum with a number of messages can be written.
+// A number of frames.
 ghost use Rattle.std.specs.Prelude.{◌≡◌};
 
+// Kept: a type beside the number of messages, so that no sum of the two can be written.
 #[derive(Clone, Copy)]
 pub struct FrameCount {
     count: u64,

@@ -22,7 +22,9 @@ struct LaneBits {
     ghost agree: { sending ≡ expected },
 }
 
+// A wire, what has come over it, the bits of each lane, the frames put, and the wire's troubles when the post was made.
 // A send puts at most 131,072 frames: two, and two for each of 65,535 troubles.
+// Kept: the bits stand in a fixed table beside the lane table, since a send may not want memory and the direct post has no bits.
 #[derive(Drop)]
 pub struct BitPost<W: Wire> {
     wire: W,

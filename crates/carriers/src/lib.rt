@@ -11,7 +11,8 @@ mod tests {
     use std::test::Fail;
     use wire::{CleanWire, MarkedWire, Wire};
 
-    // A wire that notes the frames that are put on it.
+    // A wire that notes the first frames that are put on it.
+    // Kept: a fixed table with its count, since a put may not want memory.
     #[derive(Drop)]
     struct Recorder<W> {
         inner: W,
@@ -57,11 +58,9 @@ mod tests {
     }
 
     // The number of the refusal, or 0.
+    // Kept: the numbers are what the documents give, and what is expected.
     fn refusal_of(answer: Result<(), Fault>) -> u32 {
-        match answer {
-            Ok(()) => 0,
-            Err(fault) => fault.refusal.number(),
-        }
+        answer.err().map_or(0, |fault| fault.refusal.number())
     }
 
     fn recorded(rt: &HostRuntime, marks: &[u8]) -> Result<BitPost<Recorder<MarkedWire>>, Fail> {

@@ -1,9 +1,9 @@
 -- What a table shows: lemmas that an impl cites, proved and nothing to believe.
-use Rattle.std.specs.Prelude.{◌≡◌, ℕ, zero, suc, ◌*◌, ◌<◌, List, [], ◌∷◌, map, length, take, slice_index_or, slice_set}
-use Rattle.std.proofs.Common.{sym, ap, ◌∙◌, arith, length-take}
+use Rattle.std.specs.Prelude.{◌≡◌, ℕ, zero, suc, ◌*◌, ◌<◌, List, [], ◌∷◌, map, length, take, slice_set}
+use Rattle.std.proofs.Common.{ap, ◌∙◌, arith, length-take}
 use Rattle.std.proofs.Math.Seq.{take-set-lt}
-use Rattle.std.proofs.lemmas.List.{get_or-map, get_or-take, length-map, length-take-le, map-set}
-use Rattle.post.specs.Lanes.{LaneLaw, PostLaw, no_lane, lane}
+use Rattle.std.proofs.lemmas.List.{length-map, length-take-le, map-set}
+use Rattle.post.specs.Lanes.{LaneLaw, PostLaw, lane}
 use Rattle.post.specs.Tables.{shown, lanes_of}
 use Rattle.post.specs.declared.slot.Slot.{Slot}
 use Rattle.post.specs.declared.lane_table.LaneTable.{LaneTable}
@@ -11,10 +11,6 @@ use Rattle.post.specs.declared.lane_table.LaneTable.{LaneTable}
 module _ (t : LaneTable) where
   pub lanes_length : length (lanes_of t) ≡ 2 * t.offices.number
   lanes_length = length-take-le (2 * t.offices.number) (map shown t.slots) (omega (arith, length-map t.slots shown, t.wide, t.offices.few))
-
-  pub slot_lane : (i : ℕ) (s : Slot) → i < 2 * t.offices.number → shown (slice_index_or t.slots i s) ≡ lane (lanes_of t) i
-  slot_lane i s here =
-      sym (get_or-take (2 * t.offices.number) (map shown t.slots) i no_lane here ∙ get_or-map shown t.slots i s no_lane (omega (arith, t.wide, t.offices.few)))
 
   -- a slot written
   pub slot_put : (i : ℕ) (s : Slot) → i < 2 * t.offices.number → take (2 * t.offices.number) (map shown (slice_set t.slots i s)) ≡ slice_set (lanes_of t) i (shown s)

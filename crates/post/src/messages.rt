@@ -4,7 +4,8 @@ ghost use Rattle.post.specs.Lanes.{lane as lane_of, all_sent};
 
 use crate::Post;
 
-// A number of messages, which no other count is mistaken for.
+// A number of messages.
+// Kept: a type beside the number of frames of a post over a wire, so that no sum of the two can be written.
 #[derive(Clone, Copy)]
 pub struct MessageCount {
     number: u32,

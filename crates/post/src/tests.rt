@@ -3,11 +3,11 @@ use super::*;
 use std::test::Fail;
 
 // The number and the place of a refusal, or zeros where there is none.
+// Kept: the numbers are what the documents give, and what is expected.
 fn refusal_of<T: Drop>(answer: Result<T, Fault>) -> (u32, usize) {
-    match answer {
-        Ok(_) => (0, 0),
-        Err(fault) => (fault.refusal.number(), fault.place),
-    }
+    answer
+        .err()
+        .map_or((0, 0), |fault| (fault.refusal.number(), fault.place))
 }
 
 #[test]

@@ -19,7 +19,7 @@ use post::{LaneTable, Post};
 use wire::Wire;
 
 impl<W: Wire> BitPost<W> {
-    // A post over the wire; what waits on the wire is taken and dropped.
+    // A post over the wire, which has 1 to 64 offices; what waits on the wire is taken and dropped.
     pub fn new(mut wire: W) -> BitPost<W>
         ensures offices { W.Wire.offices result.wire ≡ W.Wire.offices wire }
         ensures troubles { W.Wire.troubles result.wire ≡ W.Wire.troubles wire }

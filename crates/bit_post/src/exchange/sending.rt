@@ -56,7 +56,7 @@ impl Sending {
         ensures delivers { lanes_of table.new ≡ delivered bit expected.old (lanes_of table.old) self.lane byte }
     {
         if bit == *expected {
-            let _ = table.send(self.lane, byte);
+            table.send(self.lane, byte).unwrap();
             *expected = !bit;
         }
         place(wire, self.back, Frame::Acknowledgement { bit });
@@ -112,11 +112,7 @@ impl Sending {
         drain(wire, self.lane, 0);
         drain(wire, self.back, 0);
         let mut puts = 0;
-        'attempts: loop {
-            if self.attempt(wire, table, expected, &mut puts) {
-                break;
-            }
-        }
+        'attempts: while !self.attempt(wire, table, expected, &mut puts) {}
         puts
     }
 }

@@ -55,7 +55,7 @@ impl Slot {
         ensures after { is_ok result ≡ true → shown self.new ≡ with_byte (shown self.old) byte }
     {
         self.check_room(lane)?;
-        let _ = self.queue.push(byte);
+        self.queue.push(byte).unwrap();
         self.sent += 1;
         Ok(())
     }

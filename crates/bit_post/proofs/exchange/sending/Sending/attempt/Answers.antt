@@ -1,10 +1,10 @@
-use Rattle.std.proofs.Common.{◌≡◌, [], ◌∷◌, ◌++◌, Ok, refl, ap, ◌∙◌, subst, arith}
+use Rattle.std.proofs.Common.{rules, ◌≡◌, [], ◌∷◌, ◌++◌, Ok, refl, ap, ◌∙◌, subst, arith}
 use Rattle.std.proofs.lemmas.List.{append-nil}
 use Rattle.wire.specs.Wires.{wire_lane, copies}
 use Rattle.bit_post.specs.Frames.{data_frame}
 use Rattle.bit_post.specs.Sending.{among}
 use Rattle.bit_post.specs.declared.frame.Frame.TheVariants.{Data}
-use Rattle.bit_post.proofs.Attempting.{answering_frame, answering_ready, answering_more, answering_all}
+use Rattle.bit_post.proofs.Attempting.{answering_frame, answering_more, answering_all}
 use Rattle.bit_post.proofs.exchange.sending.Sending.attempt.Goals as goal
 
 -- every frame on the way is the data frame that was sent
@@ -16,7 +16,7 @@ answer-requires-clause-ready g c =
     let is = answering_frame s.bit s.lane s.back s.byte _ _ _ _ _ (w.lanes c.loop-number.wire) (w.lanes c.next.new.wire) _ _ c.in-Some.number _ _ _ (omega arith) h c.in-Some.ensures.takes in
     let read : c.try_from.result ≡ Ok (Data s.bit s.byte) = c.try_from.ensures ∙ is in
     let bit : c.in-Ok-Data.bit ≡ s.bit = cc in
-    λ e. answering_ready s.bit s.lane s.back s.byte [] 0 0 _ _ h.acks _ _ h.far c.requires.ready (e ∙ bit)
+    search rules
 
 pub loop-number-preserved-in-Data-1 : goal.loop-number-preserved-in-Data-1
 loop-number-preserved-in-Data-1 g c =
@@ -62,11 +62,9 @@ returns-clause-tried g c =
     let took = c.in_default.ensures in
     let said = c.drain.ensures in
     let first = put.joins ∙ ap (λ l. l.frames ++ copies put.outcome (data_frame s.bit s.byte)) c.requires.clear in
-    let all =
     answering_all s.bit s.lane s.back s.byte _ _ _ _ _
     (w.lanes c.loop-number.wire) (w.lanes c.next.new.wire) _ _ _ _ _ _ _ put.outcome c.drain.result (w.ran c.place.new.wire c.loop-number.wire) (w.ran c.args.wire.now c.drain.new.wire)
     (λ xs a. goes _ _ _ (put.outcome ∷ []) xs by.run (subst (w.ran c.place.new.wire c.drain.new.wire) (append-nil xs) (goes _ _ _ xs [] a (goes _ _ _ [] [] took.rest said.rest))))
     s.apart first c.loop-number.invariant.1 took.takes.0 took.others
     (said.found ∙ ap (λ f. among f (wire_lane (w.lanes c.next.new.wire) s.back).frames) c.into.ensures)
-    put.spent (said.calm ∙ took.calm) refl in
-    all.0
+    put.spent (said.calm ∙ took.calm) refl
