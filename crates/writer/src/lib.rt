@@ -93,6 +93,7 @@ impl Lines {
     pub fn into_bytes(self) -> Vec<u8>
         ensures { result.items ≡ self }
     {
-        self.bytes
+        let Lines { bytes } = self;
+        bytes
     }
 }
