@@ -23,24 +23,15 @@ pub fn figures_of<P: Post>(window: &Window<P>) -> Figures {
         signals: window.signals(),
         closed: window.is_closed(),
         messages: window.messages().number(),
-        sent: [
-            post.sent_count(0).unwrap_or(0),
-            post.sent_count(1).unwrap_or(0),
-            post.sent_count(2).unwrap_or(0),
-            post.sent_count(3).unwrap_or(0),
-        ],
-        credits: [window.credit(1).unwrap_or(0), window.credit(2).unwrap_or(0)],
-        remainders: [
-            window.remainder(1).unwrap_or(0),
-            window.remainder(2).unwrap_or(0),
-        ],
+        sent: [0, 1, 2, 3].map(|lane| post.sent_count(lane).unwrap_or(0)),
+        credits: [1, 2].map(|office| window.credit(office).unwrap_or(0)),
+        remainders: [1, 2].map(|office| window.remainder(office).unwrap_or(0)),
     }
 }
 
 // The layer, the number and the place of a refusal, if the answer is one.
 pub fn refusal_of<T: Drop>(answer: Result<T, Fault>) -> Option<(Layer, u32, usize)> {
-    match answer {
-        Ok(_) => None,
-        Err(fault) => Some((fault.layer, fault.refusal.number(), fault.place)),
-    }
+    answer
+        .err()
+        .map(|fault| (fault.layer, fault.refusal.number(), fault.place))
 }

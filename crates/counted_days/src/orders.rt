@@ -24,7 +24,12 @@ fn same_lots_in_other_orders(rt: HostRuntime) -> Result<(), Fail> {
     let second = play(BitPost::new(CleanWire::new(3)?), ladder, &LAST_OFFICE_FIRST).window;
     let marked = MarkedWire::new(rt.alloc(), 3, b"-+.-+..--+")?;
     let third = play(BitPost::new(marked), ladder, &IN_TURN).window;
-    let fourth = play(RecordingPost::new(DirectPost::new(3)?), ladder, &MIXED).window;
+    let fourth = play(
+        RecordingPost::new(rt.alloc(), DirectPost::new(3)?),
+        ladder,
+        &MIXED,
+    )
+    .window;
     assert_eq!(rt; first.messages().number(), 8);
     assert!(rt; same_books(&first, &second));
     assert!(rt; same_books(&first, &third));

@@ -1,32 +1,28 @@
-// A post that notes what is sent over it: the lane and the byte of the first sends.
+// A post that notes what is sent over it: the lane and the byte of each send.
 ghost use Rattle.std.proofs.Common.{rules};
 
 use fault::Fault;
 use post::Post;
+use std::alloc::Global;
 
-// Sends past the table's end are carried and not noted.
+// A send for which there is no memory is carried and not noted.
 #[derive(Drop)]
 pub struct RecordingPost<P> {
     inner: P,
-    table: [(u32, u8); 64],
-    count: usize,
+    sends: Vec<(u32, u8)>,
 }
 
 impl<P: Post> RecordingPost<P> {
-    pub fn new(inner: P) -> RecordingPost<P> {
+    pub fn new(heap: Global, inner: P) -> RecordingPost<P> {
         RecordingPost {
             inner,
-            table: [(0, 0); 64],
-            count: 0,
+            sends: Vec::new(heap),
         }
     }
 
     // The lanes and bytes that were sent, first to last.
     pub fn sends(&self) -> &[(u32, u8)] {
-        if self.count > 64 {
-            return &self.table;
-        }
-        &self.table[0..self.count]
+        &self.sends
     }
 }
 
@@ -58,10 +54,7 @@ impl<P: Post> Post for RecordingPost<P> {
     // A refused send is not noted.
     fn send(&mut self, lane: u32, byte: u8) -> Result<(), Fault> {
         self.inner.send(lane, byte)?;
-        if self.count < 64 {
-            self.table[self.count] = (lane, byte);
-            self.count += 1;
-        }
+        let _noted = self.sends.push((lane, byte));
         Ok(())
     }
 

@@ -26,11 +26,11 @@ fn report_of(heap: Global, closed: Option<usize>) -> Result<Report, AllocError> 
     })
 }
 
-// The number and the place of a refusal, or zeros where there is none.
-fn refusal_of(answer: Result<usize, Failure>) -> (u32, usize) {
+// The number and the place of a refusal, if the answer is one.
+fn refusal_of(answer: Result<usize, Failure>) -> Option<(u32, usize)> {
     match answer {
-        Err(Failure::Faulty(fault)) => (fault.refusal.number(), fault.place),
-        _ => (0, 0),
+        Err(Failure::Faulty(fault)) => Some((fault.refusal.number(), fault.place)),
+        _ => None,
     }
 }
 
@@ -51,7 +51,7 @@ fn buffer_of_the_length_needed_and_one_byte_short(rt: HostRuntime) -> Result<(),
     let mut short = [b'x'; 96];
     assert_eq!(rt;
         refusal_of(write_report(rt.alloc(), &report, &mut short)),
-        (15, 97)
+        Some((15, 97))
     );
     assert_eq!(rt; short, [b'x'; 96]);
     Ok(())

@@ -10,10 +10,9 @@ use wire::CleanWire;
 
 // The step, the signals, the messages and the sent numbers of all lanes added up.
 fn heads_of<P: Post>(window: &Window<P>) -> [u32; 4] {
-    let mut sent: u32 = 0;
-    for lane in 0..128 {
-        sent = sent.saturating_add(window.post().sent_count(lane).unwrap_or(0));
-    }
+    let sent = (0..128)
+        .map(|lane| window.post().sent_count(lane).unwrap_or(0))
+        .fold(0, u32::saturating_add);
     [
         window.step(),
         window.signals(),
