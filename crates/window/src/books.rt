@@ -20,6 +20,7 @@ pub struct OfficeRecord {
 pub struct Books {
     pub setting: SettingTable,
     pub coordinator: Coordinator,
+    // Kept: a fixed table, since a lot may not want memory.
     pub table: [OfficeRecord; 64],
 }
 

@@ -84,10 +84,8 @@ impl<P: Post> Window<P> {
         ensures lawful { (lots : List ℕ) (answers : List Answer) → Reached P.Post.lanes lots answers self.old → LawfulBooks (setting_of self.new) (lots ++ office ∷ []) (answers ++ result ∷ []) (books_of P.Post.lanes self.new) }
         ensures empty { (lots : List ℕ) (answers : List Answer) → Reached P.Post.lanes lots answers self.old → NothingWaits (P.Post.lanes self.new.post) }
     {
-        match self.admit(office) {
-            Ok(place) => self.accept(place),
-            Err(fault) => Err(fault),
-        }
+        let place = self.admit(office)?;
+        self.accept(place)
     }
 
     pub fn office_count(&self) -> u32

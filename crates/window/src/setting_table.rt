@@ -5,6 +5,7 @@ ghost use Rattle.std.specs.Prelude.{◌≡◌, ℕ, ◌-◌, ◌*◌, ◌/◌, �
 pub struct SettingTable {
     pub offices: u32,
     pub steps: u32,
+    // Kept: a fixed table, since opening a window may not want memory.
     pub slacks: [u32; 17],
     ghost some: { 1 ≤ offices },
     ghost few: { offices ≤ 64 },

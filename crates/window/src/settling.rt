@@ -15,10 +15,7 @@ fn holds_any<P: Post>(post: &P, lane: u32) -> bool
     ensures yes { result ≡ true → 0 < length (lane_of (P.Post.lanes post.now) lane).waiting }
     ensures no { result ≡ false → (lane_of (P.Post.lanes post.now) lane).waiting ≡ [] }
 {
-    match post.waiting_count(lane) {
-        Ok(n) => n > 0,
-        Err(_) => false,
-    }
+    post.waiting_count(lane).is_ok_and(|count| count > 0)
 }
 
 impl<P: Post> Window<P> {
