@@ -38,7 +38,7 @@ impl<P: Post> Window<P> {
     }
 
     // The office at the place sends a signal of its step, and turns follow.
-    pub fn signal_and_settle(&mut self, place: Place) -> Result<(), Fault>
+    pub(crate) fn signal_and_settle(&mut self, place: Place) -> Result<(), Fault>
         ensures kept { Kept P.Post.became self.old self.new }
         ensures did { Signals place.index (state_of P.Post.lanes self.old) (out (state_of P.Post.lanes self.new) result) }
     {

@@ -14,7 +14,7 @@ use post::Post;
 
 impl<P: Post> Window<P> {
     // All offices are told a byte.
-    pub fn tell(&mut self, byte: u8) -> Result<(), Fault>
+    pub(crate) fn tell(&mut self, byte: u8) -> Result<(), Fault>
         ensures kept { Kept P.became self.old self.new }
         ensures did { out (state_of P.lanes self.new) result ≡ with_lanes self.old.checked.books (tell_lanes self.old.checked.books.setting.offices byte (P.lanes self.old.post)) }
     {
@@ -26,7 +26,7 @@ impl<P: Post> Window<P> {
     }
 
     // The office at the place sends so many signals of its step.
-    pub fn signal(&mut self, place: Place, count: u32) -> Result<(), Fault>
+    pub(crate) fn signal(&mut self, place: Place, count: u32) -> Result<(), Fault>
         ensures kept { Kept P.became self.old self.new }
         ensures did { out (state_of P.lanes self.new) result ≡ with_lanes self.old.checked.books (signal_lanes place.index (office self.old.checked.books place.index).step count (P.lanes self.old.post)) }
     {
@@ -59,7 +59,7 @@ impl<P: Post> Window<P> {
         Ok(())
     }
 
-    pub fn turn(&mut self) -> Result<(), Fault>
+    pub(crate) fn turn(&mut self) -> Result<(), Fault>
         ensures kept { Kept P.became self.old self.new }
         ensures did { out (state_of P.lanes self.new) result ≡ turn_state (state_of P.lanes self.old) }
     {
