@@ -1,5 +1,5 @@
 -- The lines of a table, and their answers. Assumes nothing.
-use Rattle.std.specs.Prelude.{◌≡◌, ℕ, ◌<◌, List, [], ◌∷◌, ◌++◌, length, take, Ok, Result, ◌==◌}
+use Rattle.std.specs.Prelude.{◌≡◌, ℕ, ◌<◌, List, [], ◌∷◌, ◌++◌, length, take, cond, Ok, Result, ◌==◌, nat_lt}
 use Rattle.std.specs.List.{position_or_len, before_first, after_first, count_by, slice_split}
 use Rattle.texts.specs.declared.both_texts.Texts.{Texts}
 use Rattle.answer_table.specs.Escapes.{decoded}
@@ -9,9 +9,9 @@ abbrev pub CutsAt : (byte : ℕ) → (text before after : List ℕ) → Type 0
 CutsAt byte text before after =
     (position_or_len (λ c. c == byte) text < length text) × (before ≡ before_first (λ c. c == byte) text) × (after ≡ after_first (λ c. c == byte) text)
 
--- the terms stand before the first space of a line, and the day after it
+-- the terms stand before the first space of a line, and the day after it, both escaped; a line without a space is the terms as they are
 abbrev pub terms_in : List ℕ → List ℕ
-terms_in line = decoded (before_first (λ c. c == 32) line)
+terms_in line = cond (nat_lt (position_or_len (λ c. c == 32) line) (length line)) (decoded (before_first (λ c. c == 32) line)) line
 
 abbrev pub day_in : List ℕ → List ℕ
 day_in line = decoded (after_first (λ c. c == 32) line)

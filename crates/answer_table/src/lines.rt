@@ -22,7 +22,7 @@ fn split_once(text: &[u8], byte: u8) -> Option<(&[u8], &[u8])>
     Some((&text[..place], &text[place + 1..]))
 }
 
-// The answer to one line: its terms stand before its first space, and its day after it.
+// The answer to one line: its terms stand before its first space, and its day after it, both escaped. A line without a space is the terms as they are.
 fn answer_line<F: Fn(Global, Texts<'_>) -> Result<Vec<u8>, AllocError>>(
     heap: Global,
     line: &[u8],
@@ -31,7 +31,15 @@ fn answer_line<F: Fn(Global, Texts<'_>) -> Result<Vec<u8>, AllocError>>(
     requires { F.IsAlwaysCallable answer.now }
     ensures { IfOk result (λ v. AnswersLine (λ texts r. F.post answer.now heap texts r) line.now v) }
 {
-    let (terms, day) = split_once(line, b' ').unwrap_or((line, &[]));
+    let Some((terms, day)) = split_once(line, b' ') else {
+        return answer(
+            heap,
+            Texts {
+                terms: line,
+                day: &[],
+            },
+        );
+    };
     let terms = decode(heap, terms)?;
     let day = decode(heap, day)?;
     answer(

@@ -8,6 +8,7 @@ mod tests {
     use bit_post::BitPost;
     use fault::Fault;
     use post::{DirectPost, Post};
+    use refusals::refusal_of;
     use std::test::Fail;
     use wire::{CleanWire, MarkedWire, Wire};
 
@@ -55,12 +56,6 @@ mod tests {
         fn take(&mut self, lane: u32) -> Result<Option<u16>, Fault> {
             self.inner.take(lane)
         }
-    }
-
-    // The number of the refusal, or 0.
-    // Kept: the numbers are what the documents give, and what is expected.
-    fn refusal_of(answer: Result<(), Fault>) -> u32 {
-        answer.err().map_or(0, |fault| fault.refusal.number())
     }
 
     fn recorded(rt: &HostRuntime, marks: &[u8]) -> Result<BitPost<Recorder<MarkedWire>>, Fail> {
@@ -134,16 +129,16 @@ mod tests {
 
     // Sends on lane 0 until 65,535 are sent and sixteen wait, and tells the refusals met on the way.
     fn limits<P: Post>(post: &mut P) -> Result<[u32; 4], Fault> {
-        let no_lane = refusal_of(post.send(2, 1));
+        let no_lane = refusal_of(post.send(2, 1)).0;
         for _ in 0..16 {
             post.send(0, 5)?;
         }
-        let full = refusal_of(post.send(0, 5));
+        let full = refusal_of(post.send(0, 5)).0;
         for _ in 0..65519 {
             post.take(0)?;
             post.send(0, 5)?;
         }
-        let all_sent = refusal_of(post.send(0, 5));
+        let all_sent = refusal_of(post.send(0, 5)).0;
         Ok([no_lane, full, all_sent, post.waiting_count(0)?])
     }
 

@@ -1,7 +1,7 @@
 // The report of one day, in buffers of several lengths.
 use bit_post::FrameCount;
-use fault::Failure;
 use post::MessageCount;
+use refusals::refusal_of;
 use report::{Report, report_text, write_report};
 use std::alloc::{AllocError, Global};
 use std::test::Fail;
@@ -26,14 +26,6 @@ fn report_of(heap: Global, closed: Option<usize>) -> Result<Report, AllocError> 
     })
 }
 
-// The number and the place of a refusal, if the answer is one.
-fn refusal_of(answer: Result<usize, Failure>) -> Option<(u32, usize)> {
-    match answer {
-        Err(Failure::Faulty(fault)) => Some((fault.refusal.number(), fault.place)),
-        _ => None,
-    }
-}
-
 #[test]
 fn nine_lines(rt: HostRuntime) -> Result<(), Fail> {
     let report = report_of(rt.alloc(), Some(9))?;
@@ -51,7 +43,7 @@ fn buffer_of_the_length_needed_and_one_byte_short(rt: HostRuntime) -> Result<(),
     let mut short = [b'x'; 96];
     assert_eq!(rt;
         refusal_of(write_report(rt.alloc(), &report, &mut short)),
-        Some((15, 97))
+        (15, 97)
     );
     assert_eq!(rt; short, [b'x'; 96]);
     Ok(())

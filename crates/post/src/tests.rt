@@ -1,14 +1,7 @@
 // The direct post on short runs.
 use super::*;
+use refusals::refusal_of;
 use std::test::Fail;
-
-// The number and the place of a refusal, or zeros where there is none.
-// Kept: the numbers are what the documents give, and what is expected.
-fn refusal_of<T: Drop>(answer: Result<T, Fault>) -> (u32, usize) {
-    answer
-        .err()
-        .map_or((0, 0), |fault| (fault.refusal.number(), fault.place))
-}
 
 #[test]
 fn bytes_leave_in_the_order_they_came(rt: HostRuntime) -> Result<(), Fail> {

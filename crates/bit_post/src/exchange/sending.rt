@@ -112,7 +112,11 @@ impl Sending {
         drain(wire, self.lane, 0);
         drain(wire, self.back, 0);
         let mut puts = 0;
-        'attempts: while !self.attempt(wire, table, expected, &mut puts) {}
+        'attempts: loop {
+            if self.attempt(wire, table, expected, &mut puts) {
+                break;
+            }
+        }
         puts
     }
 }

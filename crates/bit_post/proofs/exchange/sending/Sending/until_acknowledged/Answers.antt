@@ -28,7 +28,7 @@ attempt-requires-clause-few g c =
 pub attempts-smaller : goal.attempts-smaller
 attempts-smaller g c =
     let tried = c.attempt.ensures.tried in
-    omega (arith, tried.troubles, (attempt_fails tried.by_attempt c.attempts-test.true).0)
+    omega (arith, tried.troubles, (attempt_fails tried.by_attempt c.if-attempt.false).0)
 
 pub attempts-preserved : goal.attempts-preserved
 attempts-preserved g c =
@@ -37,7 +37,7 @@ attempts-preserved g c =
     let did = c.attempt.ensures in (
       did.same ∙ c.attempts.invariant.0,
       retry_more s.bit s.lane s.back s.byte _ (w.lanes c.attempts.wire) (w.lanes c.attempt.new.wire) _ _ _ _ _ _ _ _ _ _ (w.ran c.drain-2.new.wire c.attempts.wire) (w.ran c.attempts.wire c.attempt.new.wire) (w.ran c.drain-2.new.wire c.attempt.new.wire) (g.met.W.Wire.goes _ _ _)
-          c.attempts-test.true c.attempts.invariant.1 did.tried did.far did.clear did.clean,
+          c.if-attempt.false c.attempts.invariant.1 did.tried did.far did.clear did.clean,
     )
 
 pub returns-clause-sent : goal.returns-clause-sent
@@ -45,7 +45,7 @@ returns-clause-sent g c =
     let w = g.W.Wire in
     let s = c.args.self in
     retry_done s.bit s.lane s.back s.byte _ (w.lanes c.attempts.wire) _ _ _ _ _ _ _ _ _ (w.ran c.drain-2.new.wire c.attempts.wire) (w.ran c.attempts.wire c.attempt.new.wire) (w.ran c.args.wire.now c.attempt.new.wire) (λ xs ys a b. g.met.W.Wire.goes _ _ _ [] (xs ++ ys) (g.met.W.Wire.goes _ _ _ [] [] c.drain.ensures.rest c.drain-2.ensures.rest) (g.met.W.Wire.goes _ _ _ xs ys a b))
-    c.attempts-test.false (c.drain-2.ensures.calm ∙ c.drain.ensures.calm) c.attempts.invariant.1 c.attempt.ensures.tried
+    c.if-attempt.true (c.drain-2.ensures.calm ∙ c.drain.ensures.calm) c.attempts.invariant.1 c.attempt.ensures.tried
 
 pub returns-clause-few : goal.returns-clause-few
 returns-clause-few g c = sent_few _ _ _ _ (returns-clause-sent g c) (g.met.W.Wire.sound c.args.wire.now).bounded
