@@ -1,5 +1,5 @@
-// How a byte goes over the wire: attempts, and the send that repeats them until one is acknowledged.
-ghost use Rattle.std.specs.Prelude.{◌≡◌, ℕ, ◌+◌, ◌*◌, ◌/◌, ◌^◌, ◌<◌, ◌≤◌, not, [], ◌≢◌};
+// How frames are put on a lane of the wire and taken off it.
+ghost use Rattle.std.specs.Prelude.{◌≡◌, ◌*◌, ◌<◌, ◌≤◌, []};
 ghost use Rattle.wire.specs.Wires.{wire_lane, no_frames, Others, Taken, PlacedBy};
 ghost use Rattle.bit_post.specs.Frames.{frame_number};
 ghost use Rattle.bit_post.specs.Sending.{among};

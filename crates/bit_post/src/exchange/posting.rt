@@ -1,5 +1,5 @@
 // The post over a wire: its calls, and how many frames they put.
-ghost use Rattle.std.specs.Prelude.{◌≡◌, ℕ, ◌+◌, ◌-◌, ◌*◌, ◌<◌, ◌≤◌, List, [], replicate, refl};
+ghost use Rattle.std.specs.Prelude.{◌≡◌, ℕ, ◌-◌, ◌*◌, ◌<◌, [], replicate, refl};
 ghost use Rattle.post.specs.Lanes.{no_lane};
 ghost use Rattle.post.specs.Outs.{out};
 ghost use Rattle.post.specs.Tables.{lanes_of};

@@ -1,5 +1,5 @@
 // One send of a byte on a lane: attempts, until one is acknowledged.
-ghost use Rattle.std.specs.Prelude.{◌≡◌, ℕ, ◌+◌, ◌*◌, ◌/◌, ◌^◌, ◌<◌, ◌≤◌, not, ◌≢◌};
+ghost use Rattle.std.specs.Prelude.{◌≡◌, ◌+◌, ◌*◌, ◌/◌, ◌^◌, ◌<◌, ◌≤◌, not, ◌≢◌};
 ghost use Rattle.post.specs.Lanes.{joined};
 ghost use Rattle.post.specs.Tables.{lanes_of};
 ghost use Rattle.wire.specs.Wires.{wire_lane, no_frames, PlacedBy};
