@@ -14,6 +14,5 @@ pub mod Link
 pub mod Shown
 pub mod Until
 pub mod Lawful
-pub mod Asking
 pub mod Posted
 pub mod Equal
