@@ -76,12 +76,6 @@ closes_now l lots rs n a s t r was_open r' is_closed =
       counted = ap accepted_in_all (sym r₁);
     }
 
-not_true : (b : Bool) (x : Bool) → not b ≡ x → b ≡ true → x ≡ false
-not_true b x e t = sym e ∙ ap not t
-
-not_false : (b : Bool) (x : Bool) → not b ≡ x → b ≡ false → x ≡ true
-not_false b x e t = sym e ∙ ap not t
-
 -- no lot is accepted once the window is closed
 shut_so : (used bad shut : Bool) (n : ℕ) (f₅ f₁ f₂ : Fault) → shut ≡ true → (f : Fault) × (cond used (Err f₅) (cond bad (Err f₁) (cond shut (Err f₂) (Ok (n - 1)))) ≡ Err f)
 shut_so true bad shut n f₅ f₁ f₂ e = (f₅, refl)
