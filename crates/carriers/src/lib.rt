@@ -13,7 +13,7 @@ mod tests {
     use wire::{CleanWire, MarkedWire, Wire};
 
     // A wire that notes the first frames that are put on it.
-    // Kept: a fixed table with its count, since a put may not want memory.
+    // Kept: a fixed table with its count, since the tests compare all eight places.
     #[derive(Drop)]
     struct Recorder<W> {
         inner: W,

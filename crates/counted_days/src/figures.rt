@@ -30,6 +30,7 @@ pub fn figures_of<P: Post>(window: &Window<P>) -> Figures {
 }
 
 // The layer, the number and the place of a refusal, if the answer is one.
+// Kept: beside the telling that all tests share, since it tells the layer too.
 pub fn refusal_of<T: Drop>(answer: Result<T, Fault>) -> Option<(Layer, u32, usize)> {
     answer
         .err()

@@ -22,6 +22,7 @@ pub enum Layer {
 
 impl Layer {
     // The layer's name as the fault lines print it.
+    // Kept: no `Display`, since the name is copied as it stands and a text made from it would want memory.
     pub fn name(self) -> &'static str
         ensures { result.now ≡ layer_name self }
     {

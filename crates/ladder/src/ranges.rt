@@ -14,6 +14,7 @@ pub const LARGEST_TOP: u32 = 16_777_216;
 
 pub const LARGEST_DIVISOR: u32 = 16;
 
+// Kept: two functions for two faults, since each names its refusal once and takes the number as its callers have it.
 pub fn out_of_range(number: usize) -> Fault
     ensures { result ≡ out_of_range number }
 {

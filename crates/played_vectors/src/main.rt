@@ -5,6 +5,7 @@ use answer_table::answers;
 use answering::answer;
 use std::io::{Read, Write};
 
+// Kept: a main for each of the two programs over tables; what they share is `answers`.
 fn main(rt: HostRuntime) -> anyhow::Result<()> {
     let mut table = Vec::new(rt.alloc());
     rt.stdin().read_to_end(&mut table)?;

@@ -1,6 +1,7 @@
 // What a window writes down: the coordinator's record and the table of the offices' records.
 use crate::setting_table::SettingTable;
 
+// Kept: a flag beside the step, since step and signals say the same whether the window is open or closed.
 #[derive(Clone, Copy, PartialEq, Eq)]
 pub struct Coordinator {
     pub step: u32,

@@ -13,6 +13,7 @@ use marks::Mark;
 const MOST_MARKS: usize = 65_535;
 
 // A fault of a wire.
+// Kept: a function of its own, since it names the layer once.
 pub(crate) fn wire_fault(refusal: Refusal, place: usize) -> Fault
     ensures { result ≡ fault_of Wire refusal place }
 {
