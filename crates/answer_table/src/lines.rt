@@ -23,7 +23,7 @@ fn split_once(text: &[u8], byte: u8) -> Option<(&[u8], &[u8])>
 }
 
 // The answer to one line: its terms stand before its first space, and its day after it, both escaped. A line without a space is the terms as they are.
-fn answer_line<F: Fn(Global, Texts<'_>) -> Result<Vec<u8>, AllocError>>(
+fn answer_line<F: Fn(Global, Texts<'_, '_>) -> Result<Vec<u8>, AllocError>>(
     heap: Global,
     line: &[u8],
     answer: &F,
@@ -52,7 +52,7 @@ fn answer_line<F: Fn(Global, Texts<'_>) -> Result<Vec<u8>, AllocError>>(
 }
 
 // The answer to each line of the table, and a line end after it; bytes after the last line end are no line.
-pub fn answers<F: Fn(Global, Texts<'_>) -> Result<Vec<u8>, AllocError>>(
+pub fn answers<F: Fn(Global, Texts<'_, '_>) -> Result<Vec<u8>, AllocError>>(
     heap: Global,
     table: &[u8],
     answer: F,

@@ -10,7 +10,7 @@ use std::alloc::{AllocError, Global};
 use texts::Texts;
 
 // The report of the day that the texts say, or their first fault.
-fn day_text(heap: Global, texts: Texts<'_>) -> Result<Vec<u8>, Failure>
+fn day_text(heap: Global, texts: Texts<'_, '_>) -> Result<Vec<u8>, Failure>
     ensures { Made vec_items texts.entry.terms.now texts.entry.day.now result }
 {
     let (agreed, played) = texts.read(heap)?;
@@ -19,7 +19,7 @@ fn day_text(heap: Global, texts: Texts<'_>) -> Result<Vec<u8>, Failure>
 }
 
 // What the program prints of the terms and the day.
-pub fn answer(heap: Global, texts: Texts<'_>) -> Result<Vec<u8>, AllocError>
+pub fn answer(heap: Global, texts: Texts<'_, '_>) -> Result<Vec<u8>, AllocError>
     ensures { IfOk result (λ v. Printed texts.entry.terms.now texts.entry.day.now v.items) }
 {
     let made = day_text(heap, texts);

@@ -24,7 +24,7 @@ const PLACE_KEY: &[u8] = b"place=";
 const LINE_KEY: &[u8] = b"line=";
 
 // The four lines of a fault in one of the two texts.
-pub fn fault_text(heap: Global, texts: Texts<'_>, fault: Fault) -> Result<Vec<u8>, AllocError>
+pub fn fault_text(heap: Global, texts: Texts<'_, '_>, fault: Fault) -> Result<Vec<u8>, AllocError>
     ensures { IfOk result (λ v. v.items ≡ fault_text texts.entry.terms.now texts.entry.day.now fault) }
 {
     let mut lines = Lines::new(heap);
@@ -38,7 +38,7 @@ pub fn fault_text(heap: Global, texts: Texts<'_>, fault: Fault) -> Result<Vec<u8
 // The text that was made, or the four lines of the fault that was met in its place.
 pub fn text_or_fault(
     heap: Global,
-    texts: Texts<'_>,
+    texts: Texts<'_, '_>,
     made: Result<Vec<u8>, Failure>,
 ) -> Result<Vec<u8>, AllocError>
     ensures { TextOrFault vec_items texts.entry.terms.now texts.entry.day.now made result }
@@ -102,7 +102,7 @@ fn summary_text(heap: Global, terms: &Terms, day: &Day<'_>) -> Result<Vec<u8>, A
 }
 
 // What the two texts say, or their first fault.
-fn summary(heap: Global, texts: Texts<'_>) -> Result<Vec<u8>, Failure>
+fn summary(heap: Global, texts: Texts<'_, '_>) -> Result<Vec<u8>, Failure>
     ensures { Gives vec_items (summary_of texts.entry.terms.now texts.entry.day.now) result }
 {
     let (agreed, played) = texts.read(heap)?;
@@ -110,7 +110,7 @@ fn summary(heap: Global, texts: Texts<'_>) -> Result<Vec<u8>, Failure>
 }
 
 // What the program prints of the two texts.
-pub fn answer(heap: Global, texts: Texts<'_>) -> Result<Vec<u8>, AllocError>
+pub fn answer(heap: Global, texts: Texts<'_, '_>) -> Result<Vec<u8>, AllocError>
     ensures { IfOk result (λ v. v.items ≡ answer_text texts.entry.terms.now texts.entry.day.now) }
 {
     let summary = summary(heap, texts);

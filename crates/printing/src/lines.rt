@@ -46,7 +46,7 @@ fn line_at(text: &[u8], place: usize) -> &[u8]
 }
 
 // The line that the fault lies in, as a part of the text that its layer names; empty for any other layer.
-pub fn fault_line<'a>(texts: Texts<'a>, fault: Fault) -> &'a [u8]
+pub fn fault_line<'a>(texts: Texts<'a, 'a>, fault: Fault) -> &'a [u8]
     ensures value { result.now ≡ fault_line texts.entry.terms.now texts.entry.day.now fault }
 {
     match fault.layer {

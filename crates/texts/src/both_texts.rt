@@ -13,9 +13,9 @@ pub const MOST_BYTES: usize = 65535;
 
 // The text of the terms and the text of the day.
 #[derive(Clone, Copy)]
-pub struct Texts<'a> {
-    pub terms: &'a [u8],
-    pub day: &'a [u8],
+pub struct Texts<'t, 'd> {
+    pub terms: &'t [u8],
+    pub day: &'d [u8],
 }
 
 fn short(layer: Layer, text: &[u8]) -> Result<(), Fault>
@@ -31,9 +31,9 @@ fn short(layer: Layer, text: &[u8]) -> Result<(), Fault>
     Ok(())
 }
 
-impl<'a> Texts<'a> {
+impl<'t, 'd> Texts<'t, 'd> {
     // Lengths, terms, day, in this order.
-    fn read_in_turn(self, heap: Global) -> Result<(Terms, Day<'a>), Failure>
+    fn read_in_turn(self, heap: Global) -> Result<(Terms, Day<'d>), Failure>
         ensures value { Gives both_model (read_both self.entry.terms.now self.entry.day.now) result }
     {
         short(Layer::Terms, self.terms)?;
@@ -44,7 +44,7 @@ impl<'a> Texts<'a> {
     }
 
     // What the two texts say, or their first fault: both lengths are looked at first, then the terms and the day are read.
-    pub fn read(self, heap: Global) -> Result<(Terms, Day<'a>), Failure>
+    pub fn read(self, heap: Global) -> Result<(Terms, Day<'d>), Failure>
         ensures value { Gives both_model (read_both self.entry.terms.now self.entry.day.now) result }
         ensures exact { ReadsExactly self.entry.terms.now self.entry.day.now result }
     {
