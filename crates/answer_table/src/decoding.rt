@@ -8,6 +8,7 @@ use std::alloc::{AllocError, Global};
 const LONGEST: usize = 70000;
 
 // Where the decoder stands inside an escape.
+// Kept: a state with its value, since each byte is one match on it and a closure would hold the same state.
 #[derive(Clone, Copy)]
 enum Decoding {
     Plain,
