@@ -34,6 +34,7 @@ fn place<W: Wire>(wire: &mut W, lane: u32, frame: Frame)
 }
 
 // Takes every frame off a lane, and tells whether `frame` was among them; where the lane is only to be emptied, any number does.
+// Kept: a number and no `Frame`, since what is taken may be none, and what a lane is emptied of is not looked at.
 fn drain<W: Wire>(wire: &mut W, lane: u32, frame: u16) -> bool
     requires { lane < 2 * W.Wire.offices wire.old }
     ensures same { W.Wire.offices wire.new ≡ W.Wire.offices wire.old }

@@ -1,7 +1,7 @@
 // A number of frames.
 ghost use Rattle.std.specs.Prelude.{◌≡◌};
 
-// Kept: a type beside the number of messages, so that no sum of the two can be written.
+// Kept: a type beside the number of messages, of another width, since clauses name the field of each and a marker type would add a parameter to both.
 #[derive(Clone, Copy)]
 pub struct FrameCount {
     count: u64,

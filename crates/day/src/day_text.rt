@@ -22,8 +22,8 @@ fn marks<'a>(reader: &mut Reader<'a>) -> Result<&'a [u8], Fault>
     Ok(marks)
 }
 
-// Kept: a loop beside that of the divisors, since it has no limit and tests each office alone.
 // One office or more with commas between.
+// Kept: a loop beside that of the divisors, since it has no limit and tests each office alone.
 fn some_lots(heap: Global, reader: &mut Reader<'_>, offices: u32) -> Result<Vec<u32>, Failure>
     ensures value { GivesAt vec_items (from_here (some_lots offices) reader.old) result reader.new.place }
     ensures same { SameText reader.old reader.new }
@@ -39,6 +39,7 @@ fn some_lots(heap: Global, reader: &mut Reader<'_>, offices: u32) -> Result<Vec<
 }
 
 // The lots: none where the line ends at once.
+// Kept: memory, reader and offices as parameters here and above, since a struct of them would be made for these two calls alone.
 fn lots(heap: Global, reader: &mut Reader<'_>, offices: u32) -> Result<Vec<u32>, Failure>
     ensures value { GivesAt vec_items (from_here (lots_text offices) reader.old) result reader.new.place }
     ensures same { SameText reader.old reader.new }

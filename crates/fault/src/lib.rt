@@ -22,7 +22,7 @@ pub enum Layer {
 
 impl Layer {
     // The layer's name as the fault lines print it.
-    // Kept: no `Display`, since the name is copied as it stands and a text made from it would want memory.
+    // Kept: no `Display`, since `name` is a public call and the fault lines copy what it gives as it stands.
     pub fn name(self) -> &'static str
         ensures { result.now ≡ layer_name self }
     {

@@ -44,6 +44,7 @@ fn check_divisors(grain: u32, divisors: &[u32]) -> Result<(), Fault>
 }
 
 // The grain times all the divisors.
+// Kept: a `for` over the divisors; tried as `product`, what it asks of each prefix stayed open.
 fn product_from(grain: u32, divisors: &[u32]) -> u32
     requires divisors_bound { grain * product divisors.now ≤ 16777216 }
     requires by_index { (i : ℕ) → i < length divisors.now → 1 ≤ slice_index divisors.now i }

@@ -5,7 +5,7 @@ ghost use Rattle.post.specs.Lanes.{lane as lane_of, all_sent};
 use crate::Post;
 
 // A number of messages.
-// Kept: a type beside the number of frames of a post over a wire, so that no sum of the two can be written.
+// Kept: a type beside the number of frames, of another width, since clauses name the field of each and a marker type would add a parameter to both.
 #[derive(Clone, Copy)]
 pub struct MessageCount {
     number: u32,
@@ -33,6 +33,7 @@ pub fn sent_on<P: Post>(post: &P, lane: u32) -> u32
 }
 
 // The sum of the sent numbers of all lanes.
+// Kept: a `for` over the lanes; tried as `map` and `sum`, whose bound stayed open.
 pub fn message_count<P: Post>(post: &P) -> MessageCount
     ensures { result.number ≡ all_sent (P.lanes post.now) }
 {

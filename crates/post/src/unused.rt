@@ -6,6 +6,7 @@ use crate::Post;
 use crate::messages::sent_on;
 
 // Whether nothing was ever sent on any lane.
+// Kept: a `for` over the lanes; tried as `all`, whose clause stayed open.
 pub fn is_unused<P: Post>(post: &P) -> bool
     ensures { Decides result (Unused (P.lanes post.now)) }
 {

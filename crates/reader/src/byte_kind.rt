@@ -4,7 +4,7 @@ ghost use Rattle.reader.specs.Bytes.{of_kind};
 
 use marks::Mark;
 
-// Kept: an enum, since a contract names a run by its kind, and a closure has no name there.
+// Kept: an enum, since `take_run` is a public call whose clause names the run of a kind.
 #[derive(Clone, Copy)]
 pub enum ByteKind {
     // `0` to `9`.

@@ -22,8 +22,8 @@ fn run_length(bytes: &[u8], kind: ByteKind) -> usize
     bytes.iter().take_while(|byte| kind.holds(**byte)).count()
 }
 
-// Kept: a `for`, since a fold's closure has no bound on the value so far; tried, and what `fold` asks of it stayed open.
 // The number that at most eight digits write.
+// Kept: a `for`, since a fold's closure has no bound on the value so far; tried, and what `fold` asks of it stayed open.
 #[tactic(auto, using(crate::proofs::Scan::digit_low, crate::proofs::Scan::value_small))]
 fn value_of(digits: &[u8]) -> u32
     requires digits { all_ascii_digits digits.now ≡ true }
@@ -166,7 +166,7 @@ impl<'a> Reader<'a> {
     {
         let digits = self.run_here(ByteKind::Digit);
         let count = digits.len();
-        if count == 0 || count > MOST_DIGITS || (count > 1 && digits[0] == b'0') {
+        if !(1..=MOST_DIGITS).contains(&count) || (count > 1 && digits[0] == b'0') {
             return Err(self.fault(Refusal::NotANumber));
         }
         Ok(value_of(digits))

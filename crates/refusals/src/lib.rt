@@ -7,8 +7,8 @@ ghost use Rattle.fault.specs.declared.failure.Failure.{Failure as FailureOf};
 
 use fault::Failure;
 
-// Kept: zeros and not an option, since the values that the tests expect have them.
 // Zeros where there is no refusal; 99 and 0 stand for want of memory.
+// Kept: zeros and not an option, since the values that the tests expect have them.
 pub fn refusal_of<T: Drop, E: Into<Failure>>(answer: Result<T, E>) -> (u32, usize)
     ensures { MatchResult answer (λ _. result ≡ (0, 0)) (λ e. (f : FailureOf) × E.converts e f × (result ≡ told f)) }
 {

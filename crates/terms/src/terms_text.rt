@@ -21,8 +21,7 @@ fn steps(reader: &mut Reader<'_>, grain: u32) -> Result<u32, Fault>
 {
     reader.number_if(
         |steps| {
-            1 <= steps
-                && steps as usize <= MOST_STEPS
+            (1..=MOST_STEPS).contains(&(steps as usize))
                 && u64::from(grain) << steps <= u64::from(LARGEST_TOP)
         },
         Refusal::OutOfRange,
@@ -37,16 +36,15 @@ fn divisor(reader: &mut Reader<'_>, whole: u32) -> Result<u32, Fault>
 {
     reader.number_if(
         |divisor| {
-            2 <= divisor
-                && divisor <= LARGEST_DIVISOR
+            (2..=LARGEST_DIVISOR).contains(&divisor)
                 && u64::from(whole) * u64::from(divisor) <= u64::from(LARGEST_TOP)
         },
         Refusal::OutOfRange,
     )
 }
 
-// Kept: a loop beside that of the lots, since each divisor is tested with the product of those before it.
 // One to sixteen divisors with commas between.
+// Kept: a loop beside that of the lots, since each divisor is tested with the product of those before it.
 fn divisors(heap: Global, reader: &mut Reader<'_>, grain: u32) -> Result<Vec<u32>, Failure>
     ensures value { GivesAt vec_items (from_here (divisors_text grain) reader.old) result reader.new.place }
     ensures same { SameText reader.old reader.new }
@@ -67,8 +65,8 @@ fn divisors(heap: Global, reader: &mut Reader<'_>, grain: u32) -> Result<Vec<u32
     }
 }
 
-// Kept: memory, reader and grain as parameters, since this call and the one above alone take all three.
 // The ladder: one of its words, and its numbers.
+// Kept: memory, reader and grain as parameters, since this call and the one above alone take all three.
 fn ladder(heap: Global, reader: &mut Reader<'_>, grain: u32) -> Result<LadderChoice, Failure>
     ensures value { GivesAt ladder_model (from_here (ladder_text grain) reader.old) result reader.new.place }
     ensures same { SameText reader.old reader.new }

@@ -5,7 +5,7 @@ use answer_table::answers;
 use printing::answer;
 use std::io::{Read, Write};
 
-// Kept: a main for each of the two programs over tables; what they share is `answers`.
+// Kept: a main for each program, alike but for the function that answers, since what reads and writes has no clause that a shared call could promise.
 fn main(rt: HostRuntime) -> anyhow::Result<()> {
     let mut table = Vec::new(rt.alloc());
     rt.stdin().read_to_end(&mut table)?;

@@ -40,7 +40,7 @@ impl<P: Post> Window<P> {
     fn place_of(&self, office: u32) -> Result<Place, Fault>
         ensures { index_of result ≡ asked office self.now.checked.books (office - 1) }
     {
-        if office == 0 || office > self.checked.books.setting.offices {
+        if !(1..=self.checked.books.setting.offices).contains(&office) {
             return Err(window_fault(Refusal::NoSuchOfficeOrLane, office));
         }
         Ok(Place { index: office - 1 })

@@ -5,6 +5,7 @@ ghost use Rattle.std.specs.Prelude.{◌≡◌, ℕ, ◌-◌, ◌*◌, ◌/◌, �
 pub struct SettingTable {
     pub offices: u32,
     pub steps: u32,
+    // Kept: a plain number of offices, since the definitions of the window name it as the rules do and `OfficeCount` would stand between.
     // Kept: a fixed table, since opening a window may not want memory.
     pub slacks: [u32; 17],
     ghost some: { 1 ≤ offices },

@@ -23,9 +23,9 @@ pub(crate) fn join(mark: Mark, queue: &mut Queue<u16>, frame: u16)
     ensures { held queue.new ≡ held queue.old ++ copies (outcome_of mark) frame }
 {
     if mark != Mark::Lost {
-        let _ = queue.push(frame);
+        queue.push(frame).unwrap();
     }
     if mark == Mark::Twice {
-        let _ = queue.push(frame);
+        queue.push(frame).unwrap();
     }
 }

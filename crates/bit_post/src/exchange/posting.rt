@@ -22,6 +22,7 @@ impl<W: Wire> BitPost<W> {
     // A post over the wire, which has 1 to 64 offices; what waits on the wire is taken and dropped.
     pub fn new(mut wire: W) -> BitPost<W>
         ensures offices { W.Wire.offices result.wire ≡ W.Wire.offices wire }
+        ensures table { result.table.offices.number ≡ W.Wire.offices wire }
         ensures troubles { W.Wire.troubles result.wire ≡ W.Wire.troubles wire }
         ensures rests { W.Wire.ran wire result.wire [] }
         ensures dropped { (i : ℕ) → i < 2 * W.Wire.offices wire → wire_lane (W.Wire.lanes result.wire) i ≡ no_frames }

@@ -12,6 +12,7 @@ use post::LaneTable;
 use wire::Wire;
 
 // The byte, the bit that it is sent with, its lane, and the lane of the same office the other way, on which it is acknowledged.
+// Kept: the wire, the table and the expected bit stay parameters, since the check covers no ghost field beside a `&mut`, and without one each call would require what it does now.
 #[derive(Clone, Copy)]
 pub(super) struct Sending {
     lane: u32,
