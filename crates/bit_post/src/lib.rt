@@ -33,6 +33,6 @@ pub struct BitPost<W: Wire> {
     frames: u64,
     first_troubles: u32,
     ghost wide: { length bits ≡ 128 },
-    ghost same_offices: { W.offices wire ≡ table.offices.number },
+    ghost same_offices: { W.offices wire ≡ table.slots.offices.number },
     ghost counted: { frames ≤ 131072 * all_sent (lanes_of table) },
 }

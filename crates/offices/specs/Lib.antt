@@ -1,1 +1,3 @@
 pub mod OfficeCounts
+pub mod LaneItems
+pub mod InUse

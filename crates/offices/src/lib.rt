@@ -1,11 +1,14 @@
-// A number of offices that a post or a wire may have.
+// A number of offices that a post or a wire may have, and a table with an item for each of their lanes.
 #![tactic(auto)]
 
 ghost use Rattle.std.specs.Prelude.{◌≡◌, ◌≤◌, IfOk};
 ghost use Rattle.std.specs.Result.{result_err};
 ghost use Rattle.offices.specs.OfficeCounts.{office_count_fault};
 
+mod lane_items;
+
 use fault::{Fault, Layer, Refusal};
+pub use lane_items::LaneItems;
 
 #[derive(Clone, Copy)]
 pub struct OfficeCount {

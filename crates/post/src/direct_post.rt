@@ -21,7 +21,7 @@ impl DirectPost {
     // An unused post; refuses a number of offices out of its range.
     pub fn new(offices: u32) -> Result<DirectPost, Fault>
         ensures fault { result_err result ≡ post_fault offices }
-        ensures post { IfOk result (λ p. (p.table.offices.number ≡ offices) × (lanes_of p.table ≡ replicate (2 * offices) no_lane)) }
+        ensures post { IfOk result (λ p. (p.table.slots.offices.number ≡ offices) × (lanes_of p.table ≡ replicate (2 * offices) no_lane)) }
     {
         Ok(DirectPost {
             table: LaneTable::new(OfficeCount::new(Layer::Post, offices)?),
@@ -30,7 +30,7 @@ impl DirectPost {
 }
 
 impl Post for DirectPost {
-    ghost offices = { λ p. p.table.offices.number };
+    ghost offices = { λ p. p.table.slots.offices.number };
 
     ghost lanes = { λ p. lanes_of p.table };
 

@@ -36,7 +36,7 @@ impl Message {
     ghost use Rattle.window.specs.Parts.{byte_of};
 
     // One byte: 32 times the kind, and the step.
-    // Kept: a method and no From, since only steps that are below 32 have a byte.
+    // Kept: a method that asks for a byte that fits, since a step with a bound of its own would put a proof into the definition of what a byte says.
     pub fn to_byte(self) -> u8
         requires { byte_of self < 2 ^ 8 }
         ensures { result ≡ byte_of self }

@@ -1,54 +1,37 @@
 -- The lanes of rows of frames, and a put and a take where each frame takes one place: lemmas that impls cite, proved and nothing to believe.
-use Rattle.std.specs.Prelude.{◌≡◌, ℕ, zero, suc, ◌+◌, ◌*◌, ◌<◌, ◌≤◌, cond, List, [], ◌∷◌, ◌++◌, map, length, take, replicate, Some, None, nat_le, nat_lt, slice_set, refl}
+use Rattle.std.specs.Prelude.{◌≡◌, ℕ, zero, suc, ◌+◌, ◌*◌, ◌<◌, ◌≤◌, cond, List, [], ◌∷◌, ◌++◌, map, length, replicate, Some, None, nat_le, nat_lt, slice_set, refl}
 use Rattle.std.proofs.Common.{sym, ap, subst, ◌∙◌, arith}
-use Rattle.std.proofs.Math.Seq.{take-set-lt}
-use Rattle.std.proofs.lemmas.List.{get_or-set_same, get_or-set_other, length-map, length_push, length-append, length-take-le, map-set, take-replicate}
+use Rattle.std.proofs.lemmas.List.{get_or-set_same, get_or-set_other, length-map, length_push, length-append}
 use Rattle.std.proofs.lemmas.Bool.Decides.{nat_tests}
+use Rattle.offices.specs.LaneItems.{in_use}
+use Rattle.offices.specs.InUse.{in_use_length, map_replicate}
+use Rattle.offices.specs.declared.lane_items.LaneItems.{LaneItems}
 use Rattle.queue.specs.Queues.{held}
 use Rattle.queue.specs.declared.Queue.{Queue}
 use Rattle.wire.specs.Wires.{Outcome, once, lost, twice, copies, cost, WireLane, no_frames, wire_lane, Others, no_such_lane, places_taken, put_fault, PlacesAfter, PlacedBy, WireLaw}
 use Rattle.wire.specs.Rows.{lane_of, queue_lane, lanes_of}
 use Rattle.wire.specs.Kinds.{all_empty}
-use Rattle.wire.specs.declared.rows.Rows.{Rows}
 
-lane_of_frames : (n : ℕ) (qs : List (Queue ℕ)) (i : ℕ) → wire_lane (take n (map queue_lane qs)) i ≡ lane_of (wire_lane (take n (map queue_lane qs)) i).frames
-lane_of_frames zero qs i = refl
-lane_of_frames (suc n) [] i = refl
-lane_of_frames (suc n) (q ∷ qs) zero = refl
-lane_of_frames (suc n) (q ∷ qs) (suc i) = lane_of_frames n qs i
+lane_of_frames : (qs : List (Queue ℕ)) (i : ℕ) → wire_lane (map queue_lane qs) i ≡ lane_of (wire_lane (map queue_lane qs) i).frames
+lane_of_frames [] i = refl
+lane_of_frames (q ∷ qs) zero = refl
+lane_of_frames (q ∷ qs) (suc i) = lane_of_frames qs i
 
-module _ (r : Rows) where
+module _ (r : LaneItems (Queue ℕ)) where
   -- only waiting frames take places, one each
   pub lane_is : (i : ℕ) → wire_lane (lanes_of r) i ≡ lane_of (wire_lane (lanes_of r) i).frames
-  lane_is i = lane_of_frames (2 * r.offices.number) r.queues i
+  lane_is i = lane_of_frames (in_use r) i
 
   pub lanes_length : length (lanes_of r) ≡ 2 * r.offices.number
-  lanes_length = length-take-le (2 * r.offices.number) (map queue_lane r.queues) (omega (arith, length-map r.queues queue_lane, r.wide, r.offices.few))
+  lanes_length = length-map (in_use r) queue_lane ∙ in_use_length r
 
   pub rows_sound : (t : ℕ) → t ≤ 65535 → WireLaw r.offices.number (lanes_of r) t
   rows_sound t bound =
       record { some = r.offices.some; few = r.offices.few; both_ways = lanes_length; each = λ i. omega (arith, ap (λ l. l.places) (lane_is i)); bounded = bound }
 
-  module _ (i : ℕ) (there : i < length (lanes_of r)) where
-    used : i < 2 * r.offices.number
-    used = omega (arith, lanes_length)
-
-    pub in_table : i < 128
-    in_table = omega (arith, used, r.offices.few)
-
-  module _ (i : ℕ) (q : Queue ℕ) (there : i < length (lanes_of r)) where
-    -- a queue that is written
-    pub stored : take (2 * r.offices.number) (map queue_lane (slice_set r.queues i q)) ≡ slice_set (lanes_of r) i (queue_lane q)
-    stored = ap (take (2 * r.offices.number)) (map-set queue_lane r.queues i q) ∙ take-set-lt (2 * r.offices.number) (map queue_lane r.queues) i (queue_lane q) (used i there)
-
-map_replicate : (n : ℕ) (q : Queue ℕ) → map queue_lane (replicate n q) ≡ replicate n (queue_lane q)
-map_replicate zero q = refl
-map_replicate (suc n) q = ap (λ ls. queue_lane q ∷ ls) (map_replicate n q)
-
 -- rows of one empty queue
-pub empty_lanes : (k : ℕ) (q : Queue ℕ) → k ≤ 64 → held q ≡ [] → take (2 * k) (map queue_lane (replicate 128 q)) ≡ all_empty k
-empty_lanes k q few none =
-    ap (take (2 * k)) (map_replicate 128 q ∙ ap (λ fs. replicate 128 (lane_of fs)) none) ∙ take-replicate (2 * k) 128 no_frames (omega arith)
+pub empty_lanes : (k : ℕ) (q : Queue ℕ) → held q ≡ [] → map queue_lane (replicate (2 * k) q) ≡ all_empty k
+empty_lanes k q none = map_replicate queue_lane (2 * k) q ∙ ap (λ fs. replicate (2 * k) (lane_of fs)) none
 
 places_joined : (o : Outcome) (fs : List ℕ) (f : ℕ) → PlacesAfter o (length fs) (length (fs ++ copies o f))
 places_joined once fs f = length_push fs f

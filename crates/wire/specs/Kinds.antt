@@ -7,7 +7,8 @@ use Rattle.wire.specs.Rows.{lanes_of}
 use Rattle.wire.specs.Makers.{clean_fault, marked_fault}
 use Rattle.wire.specs.declared.mark_source.NoMarks.{NoMarks}
 use Rattle.wire.specs.declared.marks_list.Marks.{Marks}
-use Rattle.wire.specs.declared.rows.Rows.{Rows}
+use Rattle.offices.specs.declared.lane_items.LaneItems.{LaneItems}
+use Rattle.queue.specs.declared.Queue.{Queue}
 use Rattle.wire.specs.declared.table_wire.TableWire.{TableWire}
 use Rattle.fault.specs.declared.failure.Failure.{Failure}
 use Rattle.fault.specs.declared.failure.Failure.TheVariants.{Faulty, NoMemory}
@@ -17,7 +18,7 @@ abbrev pub all_empty : (k : ℕ) → List WireLane
 all_empty k = replicate (2 * k) no_frames
 
 -- new rows, or the first fault
-abbrev pub RowsMade : (offices : ℕ) → Result Rows Fault → Type 0
+abbrev pub RowsMade : (offices : ℕ) → Result (LaneItems (Queue ℕ)) Fault → Type 0
 RowsMade offices (Ok r) = (clean_fault offices ≡ None) × (r.offices.number ≡ offices) × (lanes_of r ≡ all_empty offices)
 RowsMade offices (Err f) = clean_fault offices ≡ Some f
 

@@ -22,7 +22,7 @@ impl<W: Wire> BitPost<W> {
     // A post over the wire, which has 1 to 64 offices; what waits on the wire is taken and dropped.
     pub fn new(mut wire: W) -> BitPost<W>
         ensures offices { W.Wire.offices result.wire ≡ W.Wire.offices wire }
-        ensures table { result.table.offices.number ≡ W.Wire.offices wire }
+        ensures table { result.table.slots.offices.number ≡ W.Wire.offices wire }
         ensures troubles { W.Wire.troubles result.wire ≡ W.Wire.troubles wire }
         ensures rests { W.Wire.ran wire result.wire [] }
         ensures dropped { (i : ℕ) → i < 2 * W.Wire.offices wire → wire_lane (W.Wire.lanes result.wire) i ≡ no_frames }
@@ -91,7 +91,7 @@ fn send_each<P: Post>(post: &mut P, lane: u32, bytes: &[u8]) -> Result<(), Fault
 }
 
 impl<W: Wire> Post for BitPost<W> {
-    ghost offices = { λ p. p.table.offices.number };
+    ghost offices = { λ p. p.table.slots.offices.number };
 
     ghost lanes = { λ p. lanes_of p.table };
 

@@ -9,44 +9,41 @@ use super::LaneTable;
 use crate::faults::lane_fault;
 use crate::slot::Slot;
 use fault::{Fault, Refusal};
-use offices::OfficeCount;
+use offices::{LaneItems, OfficeCount};
 
 impl LaneTable {
     // The lanes of so many offices, on which nothing was ever sent.
     pub fn new(offices: OfficeCount) -> LaneTable
-        ensures offices { result.offices ≡ offices }
+        ensures offices { result.slots.offices ≡ offices }
         ensures lanes { lanes_of result ≡ replicate (2 * offices.number) no_lane }
     {
         LaneTable {
-            offices,
-            slots: [Slot::new(); 128],
+            slots: LaneItems::new(offices, Slot::new()),
         }
     }
 
     // How many offices the lanes are for.
     pub fn office_count(&self) -> u32
-        ensures { result ≡ self.now.offices.number }
+        ensures { result ≡ self.now.slots.offices.number }
     {
-        self.offices.number()
+        self.slots.office_count()
     }
 
     // The slot of a lane.
     fn slot(&self, lane: u32) -> Result<Slot, Fault>
         ensures { MatchResult result (λ s. (lane < length (lanes_of self.now)) × (shown s ≡ lane_at (lanes_of self.now) lane)) (λ f. (length (lanes_of self.now) ≤ lane) × (f ≡ lane_fault NoSuchOfficeOrLane lane)) }
     {
-        if lane >= 2 * self.offices.number() {
-            return Err(lane_fault(Refusal::NoSuchOfficeOrLane, lane));
-        }
-        Ok(self.slots[lane as usize])
+        self.slots
+            .get(lane)
+            .ok_or(lane_fault(Refusal::NoSuchOfficeOrLane, lane))
     }
 
-    // Writes the slot of a lane that there is.
+    // Writes the slot of a lane.
     fn put(&mut self, lane: u32, slot: Slot)
-        requires { lane < length (lanes_of self.old) }
-        ensures offices { self.new.offices ≡ self.old.offices }
+        ensures offices { self.new.slots.offices ≡ self.old.slots.offices }
         ensures lanes { lanes_of self.new ≡ slice_set (lanes_of self.old) lane (shown slot) }
     {
-        self.slots[lane as usize] = slot;
+        self.slots.set(lane, slot);
     }
 
     // Whether a byte may be sent on the lane.
@@ -59,7 +56,7 @@ impl LaneTable {
     // The byte joins the end of the lane; after a refusal the table is as it was.
     pub fn send(&mut self, lane: u32, byte: u8) -> Result<(), Fault>
         ensures did { out (lanes_of self.new) result ≡ send_lane lane byte (lanes_of self.old) }
-        ensures offices { self.new.offices ≡ self.old.offices }
+        ensures offices { self.new.slots.offices ≡ self.old.slots.offices }
         ensures refused { is_err result ≡ true → self.new ≡ self.old }
     {
         let mut slot = self.slot(lane)?;
@@ -71,7 +68,7 @@ impl LaneTable {
     // The first byte that waits leaves the lane; after a refusal, or if none waits, the table is as it was.
     pub fn take(&mut self, lane: u32) -> Result<Option<u8>, Fault>
         ensures did { out (lanes_of self.new) result ≡ take_lane lane (lanes_of self.old) }
-        ensures offices { self.new.offices ≡ self.old.offices }
+        ensures offices { self.new.slots.offices ≡ self.old.slots.offices }
         ensures refused { is_err result ≡ true → self.new ≡ self.old }
         ensures none { result ≡ Ok None → self.new ≡ self.old }
         ensures total { all_sent (lanes_of self.new) ≡ all_sent (lanes_of self.old) }

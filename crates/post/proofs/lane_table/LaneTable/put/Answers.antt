@@ -1,8 +1,8 @@
-use Rattle.std.proofs.Common.{arith}
-use Rattle.post.specs.Shown.{lanes_length, slot_put}
+use Rattle.std.proofs.Common.{map, ap, ◌∙◌}
+use Rattle.std.proofs.lemmas.List.{map-set}
+use Rattle.offices.specs.LaneItems.{in_use}
+use Rattle.post.specs.Tables.{shown}
 use Rattle.post.proofs.lane_table.LaneTable.put.Goals as goal
 
 pub returns-clause-lanes : goal.returns-clause-lanes
-returns-clause-lanes c =
-    let t = c.args.self.now in
-    slot_put t c.args.lane c.args.slot (omega (arith, lanes_length t, c.requires))
+returns-clause-lanes c = ap (map shown) c.set.ensures.items ∙ map-set shown (in_use c.args.self.now.slots) c.args.lane c.args.slot

@@ -9,7 +9,7 @@ use Rattle.bit_post.proofs.exchange.posting.BitPostPost.send.Goals as goal
 pub overflow_add-self : goal.overflow_add-self
 overflow_add-self g c =
     let t = c.args.self.now.table in
-    omega (arith, c.args.self.now.counted, all_sent_few t.offices.number (lanes_of t) (table_sound t), c.until_acknowledged-puts.ensures.few, c.from.ensures)
+    omega (arith, c.args.self.now.counted, all_sent_few t.slots.offices.number (lanes_of t) (table_sound t), c.until_acknowledged-puts.ensures.few, c.from.ensures)
 
 pub invariant_of-self-2 : goal.invariant_of-self-2
 invariant_of-self-2 g c =
