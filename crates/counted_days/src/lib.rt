@@ -10,7 +10,7 @@ mod orders;
 #[cfg(test)]
 mod recording;
 #[cfg(test)]
-mod refusals;
+mod refused_lots;
 #[cfg(test)]
 mod reports;
 #[cfg(test)]
