@@ -12,6 +12,7 @@ mod sending;
 
 // The first frame of a lane that there is.
 // Kept: a call tells its lane, and no struct of a wire and a lane is made, since two lanes of one wire are used in turn.
+// Kept: `same` stands at each call here. A definition of it would be as long, and as a law of wires it would be cited by hand wherever a lane has to be there.
 fn next<W: Wire>(wire: &mut W, lane: u32) -> Option<u16>
     requires { lane < 2 * W.Wire.offices wire.old }
     ensures same { W.Wire.offices wire.new ≡ W.Wire.offices wire.old }
@@ -33,20 +34,32 @@ fn place<W: Wire>(wire: &mut W, lane: u32, frame: Frame)
     wire.put(lane, frame.into()).unwrap();
 }
 
-// Takes every frame off a lane, and tells whether `frame` was among them; where the lane is only to be emptied, any number does.
-// Kept: a number and no `Frame`, since what is taken may be none, and what a lane is emptied of is not looked at.
-fn drain<W: Wire>(wire: &mut W, lane: u32, frame: u16) -> bool
+// Takes every frame off a lane, and tells whether `frame` was among them.
+fn drain<W: Wire>(wire: &mut W, lane: u32, frame: Frame) -> bool
     requires { lane < 2 * W.Wire.offices wire.old }
     ensures same { W.Wire.offices wire.new ≡ W.Wire.offices wire.old }
     ensures calm { W.Wire.troubles wire.new ≡ W.Wire.troubles wire.old }
     ensures rest { W.Wire.ran wire.old wire.new [] }
     ensures empty { wire_lane (W.Wire.lanes wire.new) lane ≡ no_frames }
     ensures others { Others (W.Wire.lanes wire.old) lane (W.Wire.lanes wire.new) }
-    ensures found { result ≡ among frame (wire_lane (W.Wire.lanes wire.old) lane).frames }
+    ensures found { result ≡ among (frame_number frame) (wire_lane (W.Wire.lanes wire.old) lane).frames }
 {
+    let sought = u16::from(frame);
     let mut found = false;
     while let Some(taken) = next(wire, lane) {
-        found |= taken == frame;
+        found |= taken == sought;
     }
     found
+}
+
+// Takes every frame off a lane, whatever it is.
+fn empty<W: Wire>(wire: &mut W, lane: u32)
+    requires { lane < 2 * W.Wire.offices wire.old }
+    ensures same { W.Wire.offices wire.new ≡ W.Wire.offices wire.old }
+    ensures calm { W.Wire.troubles wire.new ≡ W.Wire.troubles wire.old }
+    ensures rest { W.Wire.ran wire.old wire.new [] }
+    ensures empty { wire_lane (W.Wire.lanes wire.new) lane ≡ no_frames }
+    ensures others { Others (W.Wire.lanes wire.old) lane (W.Wire.lanes wire.new) }
+{
+    drain(wire, lane, Frame::Acknowledgement { bit: false });
 }

@@ -3,7 +3,7 @@ ghost use Rattle.std.specs.Prelude.{◌≡◌};
 ghost use Rattle.bit_post.specs.Frames.{frame_number, frame_of};
 
 // A byte with the bit that it is sent with, or the acknowledgement of a bit.
-#[derive(Clone, Copy, Debug, PartialEq, Eq)]
+#[derive(Clone, Copy)]
 pub(crate) enum Frame {
     Data { bit: bool, byte: u8 },
     Acknowledgement { bit: bool },

@@ -2,7 +2,7 @@
 ghost use Rattle.std.specs.Prelude.{◌≡◌};
 
 // Kept: a type beside the number of messages, of another width, since clauses name the field of each and a marker type would add a parameter to both.
-#[derive(Clone, Copy)]
+#[derive(Clone, Copy, Debug, PartialEq, Eq)]
 pub struct FrameCount {
     count: u64,
 }

@@ -1,10 +1,11 @@
 // The post that carries each byte over a wire by the alternating bit protocol (Bartlett, Scantlebury and Wilkinson, 1969).
 #![tactic(auto)]
 
-ghost use Rattle.std.specs.Prelude.{◌≡◌, ◌*◌, ◌≤◌, length};
+ghost use Rattle.std.specs.Prelude.{◌≡◌, ◌*◌, ◌≤◌};
 ghost use Rattle.post.specs.Lanes.{all_sent};
 ghost use Rattle.post.specs.Tables.{lanes_of};
 
+use offices::LaneItems;
 use post::LaneTable;
 use wire::Wire;
 
@@ -24,15 +25,14 @@ struct LaneBits {
 
 // A wire, what has come over it, the bits of each lane, the frames put, and the wire's troubles when the post was made.
 // A send puts at most 131,072 frames: two, and two for each of 65,535 troubles.
-// Kept: the bits stand in a fixed table beside the lane table, since a send may not want memory and the direct post has no bits.
 #[derive(Drop)]
 pub struct BitPost<W: Wire> {
     wire: W,
     table: LaneTable,
-    bits: [LaneBits; 128],
+    bits: LaneItems<LaneBits>,
     frames: u64,
     first_troubles: u32,
-    ghost wide: { length bits ≡ 128 },
     ghost same_offices: { W.offices wire ≡ table.slots.offices.number },
+    ghost same_bits: { bits.offices.number ≡ table.slots.offices.number },
     ghost counted: { frames ≤ 131072 * all_sent (lanes_of table) },
 }

@@ -43,13 +43,6 @@ impl<T: Copy> LaneItems<T> {
         self.in_use().get(lane as usize).copied()
     }
 
-    // The items of all lanes.
-    fn in_use(&self) -> &[T]
-        ensures { result.now ≡ in_use self.now }
-    {
-        &self.items[..2 * self.offices.number() as usize]
-    }
-
     // Another item for a lane; where there is no such lane nothing changes.
     pub fn set(&mut self, lane: u32, item: T)
         ensures offices { self.new.offices ≡ self.old.offices }
@@ -58,5 +51,12 @@ impl<T: Copy> LaneItems<T> {
         if lane < 2 * self.offices.number() {
             self.items[lane as usize] = item;
         }
+    }
+
+    // The items of all lanes.
+    fn in_use(&self) -> &[T]
+        ensures { result.now ≡ in_use self.now }
+    {
+        &self.items[..2 * self.offices.number() as usize]
     }
 }

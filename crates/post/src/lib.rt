@@ -1,7 +1,8 @@
 // A post: offices that send bytes to a coordinator and hear from it, and a post that delivers at once.
 #![tactic(auto)]
 
-ghost use Rattle.std.specs.Prelude.{◌≡◌, ℕ, true, List, is_err, None, Ok};
+ghost use Rattle.std.specs.Prelude.{◌≡◌, ℕ, List, None, Ok};
+ghost use Rattle.fault.specs.Refused.{UnchangedIfErr};
 ghost use Rattle.post.specs.Lanes.{Lane, PostLaw, send as send_lane, take as take_lane, sent_answer, waiting_answer};
 ghost use Rattle.post.specs.Outs.{out};
 
@@ -45,14 +46,14 @@ pub trait Post {
         ensures became { became self.old self.new }
         ensures did { out (lanes self.new) result ≡ send_lane lane byte (lanes self.old) }
         ensures offices { offices self.new ≡ offices self.old }
-        ensures refused { is_err result ≡ true → self.new ≡ self.old };
+        ensures refused { UnchangedIfErr result self.old self.new };
 
     // The first byte that waits leaves the lane; after a refusal, or if none waits, the post is as it was.
     fn take(&mut self, lane: u32) -> Result<Option<u8>, Fault>
         ensures became { became self.old self.new }
         ensures did { out (lanes self.new) result ≡ take_lane lane (lanes self.old) }
         ensures offices { offices self.new ≡ offices self.old }
-        ensures refused { is_err result ≡ true → self.new ≡ self.old }
+        ensures refused { UnchangedIfErr result self.old self.new }
         ensures none { result ≡ Ok None → self.new ≡ self.old };
 
     ghost sound: { (p : Self) → PostLaw (offices p) (lanes p) };

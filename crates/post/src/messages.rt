@@ -6,7 +6,7 @@ use crate::Post;
 
 // A number of messages.
 // Kept: a type beside the number of frames, of another width, since clauses name the field of each and a marker type would add a parameter to both.
-#[derive(Clone, Copy)]
+#[derive(Clone, Copy, Debug, PartialEq, Eq)]
 pub struct MessageCount {
     number: u32,
 }

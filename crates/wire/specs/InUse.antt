@@ -5,29 +5,29 @@ use Rattle.std.proofs.lemmas.List.{get_or-set_same, get_or-set_other, length-map
 use Rattle.std.proofs.lemmas.Bool.Decides.{nat_tests}
 use Rattle.offices.specs.LaneItems.{in_use}
 use Rattle.offices.specs.InUse.{in_use_length, map_replicate}
-use Rattle.offices.specs.declared.lane_items.LaneItems.{LaneItems}
 use Rattle.queue.specs.Queues.{held}
 use Rattle.queue.specs.declared.Queue.{Queue}
 use Rattle.wire.specs.Wires.{Outcome, once, lost, twice, copies, cost, WireLane, no_frames, wire_lane, Others, no_such_lane, places_taken, put_fault, PlacesAfter, PlacedBy, WireLaw}
 use Rattle.wire.specs.Rows.{lane_of, queue_lane, lanes_of}
 use Rattle.wire.specs.Kinds.{all_empty}
+use Rattle.wire.specs.declared.rows.Rows.{Rows}
 
 lane_of_frames : (qs : List (Queue ℕ)) (i : ℕ) → wire_lane (map queue_lane qs) i ≡ lane_of (wire_lane (map queue_lane qs) i).frames
 lane_of_frames [] i = refl
 lane_of_frames (q ∷ qs) zero = refl
 lane_of_frames (q ∷ qs) (suc i) = lane_of_frames qs i
 
-module _ (r : LaneItems (Queue ℕ)) where
+module _ (r : Rows) where
   -- only waiting frames take places, one each
   pub lane_is : (i : ℕ) → wire_lane (lanes_of r) i ≡ lane_of (wire_lane (lanes_of r) i).frames
-  lane_is i = lane_of_frames (in_use r) i
+  lane_is i = lane_of_frames (in_use r.queues) i
 
-  pub lanes_length : length (lanes_of r) ≡ 2 * r.offices.number
-  lanes_length = length-map (in_use r) queue_lane ∙ in_use_length r
+  pub lanes_length : length (lanes_of r) ≡ 2 * r.queues.offices.number
+  lanes_length = length-map (in_use r.queues) queue_lane ∙ in_use_length r.queues
 
-  pub rows_sound : (t : ℕ) → t ≤ 65535 → WireLaw r.offices.number (lanes_of r) t
+  pub rows_sound : (t : ℕ) → t ≤ 65535 → WireLaw r.queues.offices.number (lanes_of r) t
   rows_sound t bound =
-      record { some = r.offices.some; few = r.offices.few; both_ways = lanes_length; each = λ i. omega (arith, ap (λ l. l.places) (lane_is i)); bounded = bound }
+      record { some = r.queues.offices.some; few = r.queues.offices.few; both_ways = lanes_length; each = λ i. omega (arith, ap (λ l. l.places) (lane_is i)); bounded = bound }
 
 -- rows of one empty queue
 pub empty_lanes : (k : ℕ) (q : Queue ℕ) → held q ≡ [] → map queue_lane (replicate (2 * k) q) ≡ all_empty k

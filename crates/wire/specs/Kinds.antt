@@ -7,8 +7,7 @@ use Rattle.wire.specs.Rows.{lanes_of}
 use Rattle.wire.specs.Makers.{clean_fault, marked_fault}
 use Rattle.wire.specs.declared.mark_source.NoMarks.{NoMarks}
 use Rattle.wire.specs.declared.marks_list.Marks.{Marks}
-use Rattle.offices.specs.declared.lane_items.LaneItems.{LaneItems}
-use Rattle.queue.specs.declared.Queue.{Queue}
+use Rattle.wire.specs.declared.rows.Rows.{Rows}
 use Rattle.wire.specs.declared.table_wire.TableWire.{TableWire}
 use Rattle.fault.specs.declared.failure.Failure.{Failure}
 use Rattle.fault.specs.declared.failure.Failure.TheVariants.{Faulty, NoMemory}
@@ -18,8 +17,8 @@ abbrev pub all_empty : (k : ℕ) → List WireLane
 all_empty k = replicate (2 * k) no_frames
 
 -- new rows, or the first fault
-abbrev pub RowsMade : (offices : ℕ) → Result (LaneItems (Queue ℕ)) Fault → Type 0
-RowsMade offices (Ok r) = (clean_fault offices ≡ None) × (r.offices.number ≡ offices) × (lanes_of r ≡ all_empty offices)
+abbrev pub RowsMade : (offices : ℕ) → Result Rows Fault → Type 0
+RowsMade offices (Ok r) = (clean_fault offices ≡ None) × (r.queues.offices.number ≡ offices) × (lanes_of r ≡ all_empty offices)
 RowsMade offices (Err f) = clean_fault offices ≡ Some f
 
 -- on a clean wire every frame joins once
@@ -35,7 +34,7 @@ abbrev pub MarkedRan : Marks → Marks → List Outcome → Type 0
 MarkedRan s t outcomes = Reads (marks_left s) outcomes (marks_left t)
 
 pub record CleanStart (offices : ℕ) (w : TableWire NoMarks) : Type 0 where
-  pub offices_given : w.rows.offices.number ≡ offices
+  pub offices_given : w.rows.queues.offices.number ≡ offices
   pub empty : lanes_of w.rows ≡ all_empty offices
 
 -- a new clean wire, or the first fault
@@ -45,7 +44,7 @@ CleanMade offices (Err f) = clean_fault offices ≡ Some f
 
 -- the outcomes to come are those that the marks say, and each `-` and `+` is a trouble
 pub record MarkedStart (offices : ℕ) (marks : List ℕ) (w : TableWire Marks) : Type 0 where
-  pub offices_given : w.rows.offices.number ≡ offices
+  pub offices_given : w.rows.queues.offices.number ≡ offices
   pub empty : lanes_of w.rows ≡ all_empty offices
   pub outcomes : marks_left w.marks ≡ map byte_outcome marks
   pub troubles : w.marks.troubles ≡ costs (map byte_outcome marks)

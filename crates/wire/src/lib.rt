@@ -1,7 +1,8 @@
 // A wire: lanes on which frames of 16 bits wait. One kind has no troubles; on the other they are marked beforehand.
 #![tactic(auto)]
 
-ghost use Rattle.std.specs.Prelude.{◌≡◌, ℕ, true, List, [], ◌++◌, is_err};
+ghost use Rattle.std.specs.Prelude.{◌≡◌, ℕ, List, [], ◌++◌};
+ghost use Rattle.fault.specs.Refused.{UnchangedIfErr};
 ghost use Rattle.wire.specs.Wires.{WireLane, Outcome, WireLaw, PutDone, TakeDone};
 
 mod checks;
@@ -39,7 +40,7 @@ pub trait Wire {
     fn put(&mut self, lane: u32, frame: u16) -> Result<(), Fault>
         ensures offices { offices self.new ≡ offices self.old }
         ensures puts { PutDone (lanes self.old) (troubles self.old) lane frame result (lanes self.new) (troubles self.new) (ran self.old self.new) }
-        ensures refused { is_err result ≡ true → self.new ≡ self.old };
+        ensures refused { UnchangedIfErr result self.old self.new };
 
     // Takes the first frame from a lane, if one waits there.
     fn take(&mut self, lane: u32) -> Result<Option<u16>, Fault>
@@ -47,7 +48,7 @@ pub trait Wire {
         ensures troubles { troubles self.new ≡ troubles self.old }
         ensures rests { ran self.old self.new [] }
         ensures takes { TakeDone (lanes self.old) lane result (lanes self.new) }
-        ensures refused { is_err result ≡ true → self.new ≡ self.old };
+        ensures refused { UnchangedIfErr result self.old self.new };
 
     ghost rests: { (w : Self) → ran w w [] };
 

@@ -6,7 +6,7 @@ ghost use Rattle.wire.specs.InUse.{rows_sound};
 use crate::checks::check_marks;
 use crate::marks_list::Marks;
 use crate::outcomes::join;
-use crate::rows::{Rows, empty_rows, open_queue, queue, store};
+use crate::rows::Rows;
 use crate::{MarkSource, NoMarks, Wire};
 use fault::{Failure, Fault};
 use std::alloc::Global;
@@ -31,7 +31,7 @@ impl TableWire<NoMarks> {
         ensures { CleanMade offices result }
     {
         Ok(TableWire {
-            rows: empty_rows(offices)?,
+            rows: Rows::new(offices)?,
             marks: NoMarks,
         })
     }
@@ -44,7 +44,7 @@ impl TableWire<Marks> {
     pub fn new(heap: Global, offices: u32, marks: &[u8]) -> Result<MarkedWire, Failure>
         ensures { MarkedMade offices marks.now result }
     {
-        let rows = empty_rows(offices)?;
+        let rows = Rows::new(offices)?;
         check_marks(marks)?;
         let marks = Marks::from_bytes(heap, marks)?;
         Ok(TableWire { rows, marks })
@@ -52,7 +52,7 @@ impl TableWire<Marks> {
 }
 
 impl<M: MarkSource> Wire for TableWire<M> {
-    ghost offices = { λ w. w.rows.offices.number };
+    ghost offices = { λ w. w.rows.queues.offices.number };
 
     ghost lanes = { λ w. lanes_of w.rows };
 
@@ -75,16 +75,16 @@ impl<M: MarkSource> Wire for TableWire<M> {
     }
 
     fn put(&mut self, lane: u32, frame: u16) -> Result<(), Fault> {
-        let mut queue = open_queue(&self.rows, lane)?;
+        let mut queue = self.rows.open_queue(lane)?;
         join(self.marks.next(), &mut queue, frame);
-        store(&mut self.rows, lane, queue);
+        self.rows.store(lane, queue);
         Ok(())
     }
 
     fn take(&mut self, lane: u32) -> Result<Option<u16>, Fault> {
-        let mut queue = queue(&self.rows, lane)?;
+        let mut queue = self.rows.queue(lane)?;
         let frame = queue.pop();
-        store(&mut self.rows, lane, queue);
+        self.rows.store(lane, queue);
         Ok(frame)
     }
 }

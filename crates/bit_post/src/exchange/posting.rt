@@ -10,11 +10,11 @@ ghost use Rattle.bit_post.specs.Lists.{send_list};
 ghost use Rattle.post.specs.Shown.{table_sound};
 ghost use Rattle.bit_post.specs.Becoming.{became_same, became_joins};
 
-use super::drain;
+use super::empty;
 use super::sending::Sending;
 use crate::{BitPost, FrameCount, LaneBits};
 use fault::{Fault, Layer};
-use offices::OfficeCount;
+use offices::{LaneItems, OfficeCount};
 use post::{LaneTable, Post};
 use wire::Wire;
 
@@ -32,16 +32,17 @@ impl<W: Wire> BitPost<W> {
     {
         let offices = OfficeCount::new(Layer::Post, wire.office_count()).unwrap();
         for lane in 0..2 * offices.number() {
-            drain(&mut wire, lane, 0);
+            empty(&mut wire, lane);
         }
         let first_troubles = wire.troubles_left();
+        let at_first = LaneBits {
+            sending: false,
+            expected: false,
+        };
         BitPost {
             wire,
             table: LaneTable::new(offices),
-            bits: [LaneBits {
-                sending: false,
-                expected: false,
-            }; 128],
+            bits: LaneItems::new(offices, at_first),
             frames: 0,
             first_troubles,
         }
@@ -117,14 +118,15 @@ impl<W: Wire> Post for BitPost<W> {
 
     fn send(&mut self, lane: u32, byte: u8) -> Result<(), Fault> {
         self.table.check_send(lane)?;
-        let bits = self.bits[lane as usize];
+        let bits = self.bits.get(lane).unwrap();
         let mut expected = bits.expected;
         let sending = Sending::new(lane, bits.sending, byte);
         let puts = sending.until_acknowledged(&mut self.wire, &mut self.table, &mut expected);
-        self.bits[lane as usize] = LaneBits {
+        let flipped = LaneBits {
             sending: !bits.sending,
             expected,
         };
+        self.bits.set(lane, flipped);
         self.frames += u64::from(puts);
         Ok(())
     }

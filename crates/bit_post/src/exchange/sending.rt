@@ -6,7 +6,7 @@ ghost use Rattle.wire.specs.Wires.{wire_lane, no_frames, PlacedBy};
 ghost use Rattle.bit_post.specs.Frames.{acknowledgement};
 ghost use Rattle.bit_post.specs.Sending.{delivered, MaySend, Tried, FarAfter, Sent};
 
-use super::{drain, next, place};
+use super::{drain, empty, next, place};
 use crate::frame::Frame;
 use post::LaneTable;
 use wire::Wire;
@@ -91,7 +91,7 @@ impl Sending {
                 *puts += 1;
             }
         }
-        drain(wire, self.back, Frame::Acknowledgement { bit }.into())
+        drain(wire, self.back, Frame::Acknowledgement { bit })
     }
 
     // Makes as many attempts as it takes, and gives the number of frames put. Each attempt that fails costs the wire a trouble.
@@ -110,8 +110,8 @@ impl Sending {
         ensures sent { Sent (W.Wire.troubles wire.old) (W.Wire.troubles wire.new) result (W.Wire.ran wire.old wire.new) }
         ensures few { result ≤ 131072 }
     {
-        drain(wire, self.lane, 0);
-        drain(wire, self.back, 0);
+        empty(wire, self.lane);
+        empty(wire, self.back);
         let mut puts = 0;
         'attempts: loop {
             if self.attempt(wire, table, expected, &mut puts) {

@@ -1,5 +1,6 @@
 // What a table of lanes does.
-ghost use Rattle.std.specs.Prelude.{◌≡◌, ◌*◌, ◌<◌, ◌≤◌, true, length, replicate, is_err, None, Ok, MatchResult, slice_set};
+ghost use Rattle.std.specs.Prelude.{◌≡◌, ◌*◌, ◌<◌, ◌≤◌, length, replicate, None, Ok, MatchResult, slice_set};
+ghost use Rattle.fault.specs.Refused.{UnchangedIfErr};
 ghost use Rattle.fault.specs.declared.Refusal.TheVariants.{NoSuchOfficeOrLane};
 ghost use Rattle.post.specs.Lanes.{no_lane, lane as lane_at, lane_fault, all_sent, send as send_lane, take as take_lane, send_answer, sent_answer, waiting_answer};
 ghost use Rattle.post.specs.Outs.{out};
@@ -38,7 +39,7 @@ impl LaneTable {
             .ok_or(lane_fault(Refusal::NoSuchOfficeOrLane, lane))
     }
 
-    // Writes the slot of a lane.
+    // Writes the slot of a lane; past the last lane nothing changes.
     fn put(&mut self, lane: u32, slot: Slot)
         ensures offices { self.new.slots.offices ≡ self.old.slots.offices }
         ensures lanes { lanes_of self.new ≡ slice_set (lanes_of self.old) lane (shown slot) }
@@ -57,7 +58,7 @@ impl LaneTable {
     pub fn send(&mut self, lane: u32, byte: u8) -> Result<(), Fault>
         ensures did { out (lanes_of self.new) result ≡ send_lane lane byte (lanes_of self.old) }
         ensures offices { self.new.slots.offices ≡ self.old.slots.offices }
-        ensures refused { is_err result ≡ true → self.new ≡ self.old }
+        ensures refused { UnchangedIfErr result self.old self.new }
     {
         let mut slot = self.slot(lane)?;
         slot.send(lane, byte)?;
@@ -69,7 +70,7 @@ impl LaneTable {
     pub fn take(&mut self, lane: u32) -> Result<Option<u8>, Fault>
         ensures did { out (lanes_of self.new) result ≡ take_lane lane (lanes_of self.old) }
         ensures offices { self.new.slots.offices ≡ self.old.slots.offices }
-        ensures refused { is_err result ≡ true → self.new ≡ self.old }
+        ensures refused { UnchangedIfErr result self.old self.new }
         ensures none { result ≡ Ok None → self.new ≡ self.old }
         ensures total { all_sent (lanes_of self.new) ≡ all_sent (lanes_of self.old) }
     {

@@ -10,7 +10,7 @@ invariant-loop-taken g l =
     × (w.troubles l.wire ≡ w.troubles l.initial.wire)
     × w.ran l.initial.wire l.wire []
     × Others (w.lanes l.initial.wire) l.lane (w.lanes l.wire)
-    × ((l.found || among l.frame (wire_lane (w.lanes l.wire) l.lane).frames) ≡ among l.frame (wire_lane (w.lanes l.initial.wire) l.lane).frames)
+    × ((l.found || among l.sought (wire_lane (w.lanes l.wire) l.lane).frames) ≡ among l.sought (wire_lane (w.lanes l.initial.wire) l.lane).frames)
 
 abbrev pub decreases-loop-taken : goal.decreases-loop-taken
 decreases-loop-taken g l = length (wire_lane (g.W.Wire.lanes l.wire) l.lane).frames

@@ -13,4 +13,4 @@ returns-clause-puts g c =
     let o = outcome_of c.next.result in
     let joined = c.join.ensures ∙ ap (λ l. l.frames ++ copies o c.args.frame) may.1 in
     let is = c.store.ensures.lanes ∙ ap (λ fs. set (lanes_of r) i (lane_of fs)) joined in
-    (may.0, put_done (lanes_of r) i (lane_is r i) (lanes_of c.store.new.rows) _ _ c.args.frame o _ (put_there (lanes_of r) i may.0) c.next.ensures.falls is c.next.ensures.reads)
+    (may.0, put_done (lanes_of r) i (lane_is r i) (lanes_of c.store.new.self) _ _ c.args.frame o _ (put_there (lanes_of r) i may.0) c.next.ensures.falls is c.next.ensures.reads)

@@ -1,4 +1,4 @@
-use Rattle.std.proofs.Common.{◌≡◌, ◌+◌, length, sym, refl, ap, ◌∙◌, arith, length-set}
+use Rattle.std.proofs.Common.{◌≡◌, ◌+◌, length, sym, refl, ap, ◌∙◌, arith}
 use Rattle.post.specs.Lanes.{joined, all_sent}
 use Rattle.post.specs.Tables.{lanes_of}
 use Rattle.post.specs.Sends.{opened, length_joined, all_sent_joined, all_sent_few}
@@ -11,8 +11,8 @@ overflow_add-self g c =
     let t = c.args.self.now.table in
     omega (arith, c.args.self.now.counted, all_sent_few t.slots.offices.number (lanes_of t) (table_sound t), c.until_acknowledged-puts.ensures.few, c.from.ensures)
 
-pub invariant_of-self-2 : goal.invariant_of-self-2
-invariant_of-self-2 g c =
+pub invariant_of-self : goal.invariant_of-self
+invariant_of-self g c =
     let p = c.args.self.now in
     let i = c.args.lane in
     let did = c.until_acknowledged-puts.ensures in
@@ -21,8 +21,8 @@ invariant_of-self-2 g c =
     let more = ap all_sent lanes ∙ all_sent_joined (lanes_of p.table) i c.args.byte (opened (lanes_of p.table) i (sym c.in_ok-check_send.ensures)).there in
     let long = ap length lanes ∙ length_joined (lanes_of p.table) i c.args.byte in
     record {
-      wide = length-set p.bits i _ ∙ p.wide;
       same_offices = omega (arith, did.same, p.same_offices, long, lanes_length p.table, lanes_length t);
+      same_bits = omega (arith, ap (λ b. b.number) c.set.ensures.offices, p.same_bits, long, lanes_length p.table, lanes_length t);
       counted = omega (arith, p.counted, more, did.few, c.from.ensures);
     }
 

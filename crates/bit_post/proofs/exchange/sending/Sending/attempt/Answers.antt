@@ -1,8 +1,7 @@
 use Rattle.std.proofs.Common.{rules, ◌≡◌, [], ◌∷◌, ◌++◌, Ok, refl, ap, ◌∙◌, subst, arith}
 use Rattle.std.proofs.lemmas.List.{append-nil}
-use Rattle.wire.specs.Wires.{wire_lane, copies}
+use Rattle.wire.specs.Wires.{copies}
 use Rattle.bit_post.specs.Frames.{data_frame}
-use Rattle.bit_post.specs.Sending.{among}
 use Rattle.bit_post.specs.declared.frame.Frame.TheVariants.{Data}
 use Rattle.bit_post.proofs.Attempting.{answering_frame, answering_more, answering_all}
 use Rattle.bit_post.proofs.exchange.sending.Sending.attempt.Goals as goal
@@ -66,5 +65,5 @@ returns-clause-tried g c =
     (w.lanes c.loop-number.wire) (w.lanes c.next.new.wire) _ _ _ _ _ _ _ put.outcome c.drain.result (w.ran c.place.new.wire c.loop-number.wire) (w.ran c.args.wire.now c.drain.new.wire)
     (λ xs a. goes _ _ _ (put.outcome ∷ []) xs by.run (subst (w.ran c.place.new.wire c.drain.new.wire) (append-nil xs) (goes _ _ _ xs [] a (goes _ _ _ [] [] took.rest said.rest))))
     s.apart first c.loop-number.invariant.1 took.takes.0 took.others
-    (said.found ∙ ap (λ f. among f (wire_lane (w.lanes c.next.new.wire) s.back).frames) c.into.ensures)
+    said.found
     put.spent (said.calm ∙ took.calm) refl

@@ -8,10 +8,10 @@ pub attempts-init : goal.attempts-init
 attempts-init g c = (
   refl,
   record {
-    there_empty = c.drain-2.ensures.others c.args.self.lane (λ e. c.args.self.apart (sym e)) ∙ c.drain.ensures.empty;
-    back_empty = c.drain-2.ensures.empty;
+    there_empty = c.empty-2.ensures.others c.args.self.lane (λ e. c.args.self.apart (sym e)) ∙ c.empty.ensures.empty;
+    back_empty = c.empty-2.ensures.empty;
     outcomes = [];
-    wire_ran = g.met.W.Wire.rests c.drain-2.new.wire;
+    wire_ran = g.met.W.Wire.rests c.empty-2.new.wire;
     failing = start;
     troubles = omega arith;
     puts = refl;
@@ -22,7 +22,7 @@ attempts-init g c = (
 pub attempt-requires-clause-few : goal.attempt-requires-clause-few
 attempt-requires-clause-few g c =
     let h = c.attempts.invariant.1 in
-    let law = g.met.W.Wire.sound c.drain-2.new.wire in
+    let law = g.met.W.Wire.sound c.empty-2.new.wire in
     omega (arith, law.bounded, h.troubles, h.puts, failing_few h.failing)
 
 pub attempts-smaller : goal.attempts-smaller
@@ -36,7 +36,7 @@ attempts-preserved g c =
     let s = c.args.self in
     let did = c.attempt.ensures in (
       did.same ∙ c.attempts.invariant.0,
-      retry_more s.bit s.lane s.back s.byte _ (w.lanes c.attempts.wire) (w.lanes c.attempt.new.wire) _ _ _ _ _ _ _ _ _ _ (w.ran c.drain-2.new.wire c.attempts.wire) (w.ran c.attempts.wire c.attempt.new.wire) (w.ran c.drain-2.new.wire c.attempt.new.wire) (g.met.W.Wire.goes _ _ _)
+      retry_more s.bit s.lane s.back s.byte _ (w.lanes c.attempts.wire) (w.lanes c.attempt.new.wire) _ _ _ _ _ _ _ _ _ _ (w.ran c.empty-2.new.wire c.attempts.wire) (w.ran c.attempts.wire c.attempt.new.wire) (w.ran c.empty-2.new.wire c.attempt.new.wire) (g.met.W.Wire.goes _ _ _)
           c.if-attempt.false c.attempts.invariant.1 did.tried did.far did.clear did.clean,
     )
 
@@ -44,8 +44,8 @@ pub returns-clause-sent : goal.returns-clause-sent
 returns-clause-sent g c =
     let w = g.W.Wire in
     let s = c.args.self in
-    retry_done s.bit s.lane s.back s.byte _ (w.lanes c.attempts.wire) _ _ _ _ _ _ _ _ _ (w.ran c.drain-2.new.wire c.attempts.wire) (w.ran c.attempts.wire c.attempt.new.wire) (w.ran c.args.wire.now c.attempt.new.wire) (λ xs ys a b. g.met.W.Wire.goes _ _ _ [] (xs ++ ys) (g.met.W.Wire.goes _ _ _ [] [] c.drain.ensures.rest c.drain-2.ensures.rest) (g.met.W.Wire.goes _ _ _ xs ys a b))
-    c.if-attempt.true (c.drain-2.ensures.calm ∙ c.drain.ensures.calm) c.attempts.invariant.1 c.attempt.ensures.tried
+    retry_done s.bit s.lane s.back s.byte _ (w.lanes c.attempts.wire) _ _ _ _ _ _ _ _ _ (w.ran c.empty-2.new.wire c.attempts.wire) (w.ran c.attempts.wire c.attempt.new.wire) (w.ran c.args.wire.now c.attempt.new.wire) (λ xs ys a b. g.met.W.Wire.goes _ _ _ [] (xs ++ ys) (g.met.W.Wire.goes _ _ _ [] [] c.empty.ensures.rest c.empty-2.ensures.rest) (g.met.W.Wire.goes _ _ _ xs ys a b))
+    c.if-attempt.true (c.empty-2.ensures.calm ∙ c.empty.ensures.calm) c.attempts.invariant.1 c.attempt.ensures.tried
 
 pub returns-clause-few : goal.returns-clause-few
 returns-clause-few g c = sent_few _ _ _ _ (returns-clause-sent g c) (g.met.W.Wire.sound c.args.wire.now).bounded

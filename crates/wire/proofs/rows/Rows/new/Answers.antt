@@ -2,7 +2,7 @@ use Rattle.std.proofs.Common.{map, sym, ap, ◌∙◌}
 use Rattle.wire.specs.Rows.{queue_lane}
 use Rattle.wire.specs.Kinds.{all_empty}
 use Rattle.wire.specs.InUse.{empty_lanes}
-use Rattle.wire.proofs.rows.empty_rows.Goals as goal
+use Rattle.wire.proofs.rows.Rows.new.Goals as goal
 
 pub returns : goal.returns
 returns c =
