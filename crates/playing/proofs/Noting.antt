@@ -10,6 +10,7 @@ use Rattle.rules.specs.Runs.{Answer, Runs, over, refused, accepted, Books as Boo
 use Rattle.window.specs.declared.Window.{Window}
 use Rattle.window.specs.declared.books.Books.{Books}
 use Rattle.window.specs.Turns.{admitted}
+use Rattle.window.specs.Parts.{is_closed as closed_in}
 use Rattle.window.specs.Windows.{setting_of, books_of, Reached}
 use Rattle.playing.specs.declared.day.Played.{Played}
 use Rattle.playing.specs.declared.tally.Tally.{Tally}
@@ -82,14 +83,14 @@ shut_so true bad shut n f₅ f₁ f₂ e = (f₅, refl)
 shut_so false true shut n f₅ f₁ f₂ e = (f₁, refl)
 shut_so false false shut n f₅ f₁ f₂ e = (f₂, cond-true _ _ _ e)
 
-pub open_if_accepted : (used : Bool) (n : ℕ) (b : Books) (a : Answer) → ((f : Fault) → admitted used n b ≡ Err f → a ≡ Err f) → a ≡ Ok tt → b.coordinator.closed ≡ false
+pub open_if_accepted : (used : Bool) (n : ℕ) (b : Books) (a : Answer) → ((f : Fault) → admitted used n b ≡ Err f → a ≡ Err f) → a ≡ Ok tt → closed_in b.coordinator.phase ≡ false
 open_if_accepted used n b a refuses is = ⊎_elim
-    (λ (shut : b.coordinator.closed ≡ true).
-    let z = shut_so used (eqb n 0 || ltb b.setting.offices n) b.coordinator.closed n _ _ _ shut in
+    (λ (shut : closed_in b.coordinator.phase ≡ true).
+    let z = shut_so used (eqb n 0 || ltb b.setting.offices n) (closed_in b.coordinator.phase) n _ _ _ shut in
     let err = refuses z.0 z.1 in
     let y : ◌≡◌ {A = ℕ} 0 1 = cc in absurd (omega arith))
-    (λ (going : b.coordinator.closed ≡ false). going)
-    (cases_Bool b.coordinator.closed)
+    (λ (going : closed_in b.coordinator.phase ≡ false). going)
+    (cases_Bool (closed_in b.coordinator.phase))
 
 -- which lot closed the window, after one answer more
 closing_next : (l : Setting) (lots : List ℕ) (rs : List Answer) (n : ℕ) (b b' : Books-shown) (s t : Rules-state) (number : ℕ) (c : Option ℕ) (closed : Bool)

@@ -3,9 +3,10 @@ use Rattle.std.proofs.Common.{◌≡◌, ℕ, zero, suc, ◌+◌, ◌*◌, ◌/�
 use Rattle.window.specs.declared.setting_table.SettingTable.{SettingTable}
 use Rattle.window.specs.declared.books.Books.{Books}
 use Rattle.window.specs.declared.books.OfficeRecord.{OfficeRecord}
+use Rattle.window.specs.declared.books.Phase.TheVariants.{Open, Closed}
 use Rattle.post.specs.Lanes.{lane}
 use Rattle.window.specs.Turns.{State, at}
-use Rattle.window.specs.Parts.{office, slack, quota, in_coordinator, due, counted}
+use Rattle.window.specs.Parts.{step_in, office, slack, quota, in_coordinator, due, counted}
 
 -- an office's record after a start, and the signals that it then sends
 unfoldable pub moved_record : SettingTable → OfficeRecord → OfficeRecord
@@ -21,15 +22,15 @@ sumq q (suc m) = sumq q m + q m
 
 -- the books as the next step begins
 abbrev pub started : ℕ → Books → Books
-started i b = in_coordinator b i (record { step = b.coordinator.step + 1; signals = 0; closed = false })
+started i b = in_coordinator b i (record { phase = Open (step_in b.coordinator.phase + 1); signals = 0 })
 
 -- the books after the signals that the start brought
 pub record MovedOn (i : ℕ) (b b' : Books) : Type 0 where
   pub setting : b'.setting ≡ b.setting
-  pub coordinator : b'.coordinator ≡ record { step = b.coordinator.step + 1; signals = sumq (λ n. whole b.setting (office (started i b) n)) b.setting.offices; closed = false }
+  pub coordinator : b'.coordinator ≡ record { phase = Open (step_in b.coordinator.phase + 1); signals = sumq (λ n. whole b.setting (office (started i b) n)) b.setting.offices }
   pub records : (n : ℕ) → n < b.setting.offices → office b' n ≡ record {
     step = (moved_record b.setting (office (started i b) n)).step;
-    credit = (office (started i b) n).credit + whole b.setting (office (started i b) n) * slack b.setting (b.coordinator.step + 1);
+    credit = (office (started i b) n).credit + whole b.setting (office (started i b) n) * slack b.setting (step_in b.coordinator.phase + 1);
     remainder = (moved_record b.setting (office (started i b) n)).remainder;
   }
 
@@ -40,9 +41,9 @@ pub record Carried (i : ℕ) (q : ℕ → ℕ) (d : ℕ) (s v : State) : Type 0 
 
 -- after a signal of office i
 pub data After (i : ℕ) (s : State) : State → Type 0 where
-  goes_on : {v : State} → (s.books.coordinator.signals + 1 ≡ quota s.books.setting s.books.coordinator.step → ⊥) → v.books ≡ in_coordinator s.books i (record { step = s.books.coordinator.step; signals = s.books.coordinator.signals + 1; closed = false }) → Carried i (λ n. 0) 0 s v → After i s v
-  ends : {v : State} → s.books.coordinator.signals + 1 ≡ quota s.books.setting s.books.coordinator.step → s.books.setting.steps ≤ s.books.coordinator.step → v.books ≡ in_coordinator s.books i (record { step = s.books.coordinator.step; signals = s.books.coordinator.signals + 1; closed = true }) → Carried i (λ n. 0) 1 s v → After i s v
-  moves_on : {v : State} → s.books.coordinator.signals + 1 ≡ quota s.books.setting s.books.coordinator.step → s.books.coordinator.step < s.books.setting.steps → MovedOn i s.books v.books → Carried i (λ n. whole s.books.setting (office (started i s.books) n)) 1 s v → After i s v
+  goes_on : {v : State} → (s.books.coordinator.signals + 1 ≡ quota s.books.setting (step_in s.books.coordinator.phase) → ⊥) → v.books ≡ in_coordinator s.books i (record { phase = Open (step_in s.books.coordinator.phase); signals = s.books.coordinator.signals + 1 }) → Carried i (λ n. 0) 0 s v → After i s v
+  ends : {v : State} → s.books.coordinator.signals + 1 ≡ quota s.books.setting (step_in s.books.coordinator.phase) → s.books.setting.steps ≤ step_in s.books.coordinator.phase → v.books ≡ in_coordinator s.books i (record { phase = Closed (step_in s.books.coordinator.phase); signals = s.books.coordinator.signals + 1 }) → Carried i (λ n. 0) 1 s v → After i s v
+  moves_on : {v : State} → s.books.coordinator.signals + 1 ≡ quota s.books.setting (step_in s.books.coordinator.phase) → step_in s.books.coordinator.phase < s.books.setting.steps → MovedOn i s.books v.books → Carried i (λ n. whole s.books.setting (office (started i s.books) n)) 1 s v → After i s v
 
 -- after an accepted lot
 pub data Accepted (i : ℕ) (s : State) : State → Type 0 where

@@ -8,7 +8,8 @@ use Rattle.window.specs.Sequences.{fine, then, each}
 use Rattle.window.specs.declared.setting_table.SettingTable.{SettingTable}
 use Rattle.window.specs.declared.books.Books.{Books}
 use Rattle.window.specs.declared.message.Message.TheVariants.{Signal, Start, Close}
-use Rattle.window.specs.Parts.{Heard, heard, heard_of, message, Followed, followed, followed_of, signalled, office, quota, in_coordinator}
+use Rattle.window.specs.declared.books.Phase.TheVariants.{Open}
+use Rattle.window.specs.Parts.{step_in, is_closed, Heard, heard, heard_of, message, Followed, followed, followed_of, signalled, office, quota, in_coordinator}
 use Rattle.window.specs.Turns.{State, at, with_lanes, tell, with_each, drain, replies, hear, answers, follow, coordinator_part, office_part, turn, signal_and_settle}
 use Rattle.window.proofs.Even.{Empty}
 use Rattle.window.proofs.Steps.{went}
@@ -165,7 +166,7 @@ tell_fine k b ls long none few =
 
 -- office i sends a signal to a coordinator that is at its step
 module _ (i : ℕ) (s : State) (e : Empty s) (less : i < s.books.setting.offices) (few : (lane s.lanes (2 * i)).sent < 65535)
-    (going : s.books.coordinator.closed ≡ false) (same : (office s.books i).step ≡ s.books.coordinator.step) (small : s.books.coordinator.step < 32) where
+    (going : is_closed s.books.coordinator.phase ≡ false) (same : (office s.books i).step ≡ step_in s.books.coordinator.phase) (small : step_in s.books.coordinator.phase < 32) where
   unfoldable pub ready : List Lane
   ready = once s.lanes (2 * i)
 
@@ -194,7 +195,7 @@ module _ (i : ℕ) (s : State) (e : Empty s) (less : i < s.books.setting.offices
       then_fine _ sent ∙ then_fine _ turned ∙ then-turn
 
   signal_books : Books
-  signal_books = in_coordinator s.books i (record { step = s.books.coordinator.step; signals = s.books.coordinator.signals + 1; closed = false })
+  signal_books = in_coordinator s.books i (record { phase = Open (step_in s.books.coordinator.phase); signals = s.books.coordinator.signals + 1 })
 
   ready_empty : Empty (at signal_books ready)
   unfolding ready signal_books
@@ -205,7 +206,7 @@ module _ (i : ℕ) (s : State) (e : Empty s) (less : i < s.books.setting.offices
   }
 
   -- one signal more, and the step goes on
-  pub settle_signal : (s.books.coordinator.signals + 1 ≡ quota s.books.setting s.books.coordinator.step → ⊥) → signal_and_settle i s ≡ fine (at (in_coordinator s.books i (record { step = s.books.coordinator.step; signals = s.books.coordinator.signals + 1; closed = false })) (once s.lanes (2 * i)))
+  pub settle_signal : (s.books.coordinator.signals + 1 ≡ quota s.books.setting (step_in s.books.coordinator.phase) → ⊥) → signal_and_settle i s ≡ fine (at (in_coordinator s.books i (record { phase = Open (step_in s.books.coordinator.phase); signals = s.books.coordinator.signals + 1 })) (once s.lanes (2 * i)))
   unfolding signal_books ready signalled
   settle_signal not_full =
       let t = at signal_books ready in
@@ -213,7 +214,7 @@ module _ (i : ℕ) (s : State) (e : Empty s) (less : i < s.books.setting.offices
       let em = ready_empty in
       signalled_on t t em.long refl em.up (ap (λ (h : Heard). replies h.reply h.books ready) is) (office_skip t _ em.long em.down) t (empty_turn t em)
     where
-      signalled_not : (s.books.coordinator.signals + 1 ≡ quota s.books.setting s.books.coordinator.step → ⊥) → signalled i s.books ≡ heard_of signal_books None
+      signalled_not : (s.books.coordinator.signals + 1 ≡ quota s.books.setting (step_in s.books.coordinator.phase) → ⊥) → signalled i s.books ≡ heard_of signal_books None
       signalled_not n = cond-false _ _ _ (ne_eqb _ _ n)
 
 pub message_start : (j : ℕ) → j < 32 → message (64 + j) ≡ Some (Start j)

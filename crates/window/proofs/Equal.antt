@@ -1,13 +1,17 @@
 -- Books are equal if every figure is, and only then. Assumes nothing.
 use Rattle.std.proofs.Common.{◌≡◌, ℕ, ◌<◌, ◌≤◌, Bool, true, false, not, List, map, length, get_or, take, sym, refl, ap, ◌∙◌, arith}
 use lib.ListN.{length-map}
+use Rattle.std.proofs.lemmas.Bool.{false≢true, true≢false}
 use Rattle.std.proofs.lemmas.List.{ext_get_or, length-take-le, get_or-map}
 use Rattle.rules.specs.Runs.{Books as Books-shown}
+use Rattle.window.specs.declared.books.Coordinator.{Coordinator}
 use Rattle.window.specs.declared.books.OfficeRecord.{OfficeRecord}
+use Rattle.window.specs.declared.books.Phase.{Phase}
+use Rattle.window.specs.declared.books.Phase.TheVariants.{Open, Closed}
 use Rattle.window.specs.declared.checked_books.CheckedBooks.{CheckedBooks}
 use Rattle.post.specs.Lanes.{Lane}
 use Rattle.window.specs.Comparing.{SameFigures, SameHeads}
-use Rattle.window.specs.Parts.{no_office}
+use Rattle.window.specs.Parts.{step_in, is_closed, no_office}
 use Rattle.window.specs.Turns.{State, at}
 use Rattle.window.specs.Windows.{shown}
 
@@ -16,6 +20,12 @@ not_one true true e = refl
 not_one false false e = refl
 not_one true false e = sym e
 not_one false true e = sym e
+
+same_phase : (p q : Phase) → step_in p ≡ step_in q → is_closed p ≡ is_closed q → p ≡ q
+same_phase (Open j) (Open k) e same = ap Open e
+same_phase (Closed j) (Closed k) e same = ap Closed e
+same_phase (Open j) (Closed k) e same = absurd (false≢true same)
+same_phase (Closed j) (Open k) e same = absurd (true≢false same)
 
 map_same : (f : OfficeRecord → ℕ) (xs ys : List OfficeRecord) → length xs ≡ length ys → ((i : ℕ) → i < length xs → f (get_or xs i no_office) ≡ f (get_or ys i no_office)) → map f xs ≡ map f ys
 map_same f xs ys long each =
@@ -50,8 +60,10 @@ module _ (d d' : CheckedBooks) (ls ls' : List Lane) where
       let column : (f : OfficeRecord → ℕ) → ((i : ℕ) → i < length xs → f (get_or xs i no_office) ≡ f (get_or ys i no_office)) → map f (take k d.books.table) ≡ map f (take k' d'.books.table) = λ f each. ap (map f) (sym xs_are) ∙ map_same f xs ys long each ∙ ap (map f) ys_are in
       let cs = column (λ o. o.credit) (λ i less. (same i less).credit) in
       let rs = column (λ o. o.remainder) (λ i less. (same i less).remainder) in
-      let open_is = ap not heads.closed in
-      λ i. record { step = heads.step i; signals = heads.signals i; is_open = open_is i; messages = heads.messages i; credits = cs i; remainders = rs i }
+      let step_is = ap (λ (h : Coordinator). step_in h.phase) heads.coordinator in
+      let signals_are = ap (λ (h : Coordinator). h.signals) heads.coordinator in
+      let open_is = ap (λ (h : Coordinator). not (is_closed h.phase)) heads.coordinator in
+      λ i. record { step = step_is i; signals = signals_are i; is_open = open_is i; messages = heads.messages i; credits = cs i; remainders = rs i }
 
   k_same : shown s ≡ shown s' → k ≡ d'.books.setting.offices
   k_same e =
@@ -62,9 +74,10 @@ module _ (d d' : CheckedBooks) (ls ls' : List Lane) where
   pub heads_of : shown s ≡ shown s' → SameHeads s s'
   heads_of e = record {
     offices = k_same e;
-    step = ap (λ (b : Books-shown). b.step) e;
-    signals = ap (λ (b : Books-shown). b.signals) e;
-    closed = not_one _ _ (ap (λ (b : Books-shown). b.is_open) e);
+    coordinator =
+        let phase_is = same_phase _ _ (ap (λ (b : Books-shown). b.step) e) (not_one _ _ (ap (λ (b : Books-shown). b.is_open) e)) in
+        let signals_are = ap (λ (b : Books-shown). b.signals) e in
+        λ i. record { phase = phase_is i; signals = signals_are i };
     messages = ap (λ (b : Books-shown). b.messages) e;
   }
 

@@ -1,7 +1,7 @@
 -- What holds between two lots of a window that was opened on an unused post. Assumes nothing.
 use Rattle.std.proofs.Common.{◌≡◌, ℕ, ◌+◌, ◌*◌, ◌<◌, [], length}
 use Rattle.post.specs.Lanes.{lane}
-use Rattle.window.specs.Parts.{office}
+use Rattle.window.specs.Parts.{step_in, office}
 use Rattle.window.specs.Turns.{State}
 
 -- the lanes of all offices are there, and hold nothing
@@ -14,4 +14,4 @@ pub record Empty (s : State) : Type 0 where
 pub record Even (s : State) : Type 0 where
   pub empty : Empty s
   pub tall : length s.books.table ≡ 64
-  pub level : (n : ℕ) → n < s.books.setting.offices → (office s.books n).step ≡ s.books.coordinator.step
+  pub level : (n : ℕ) → n < s.books.setting.offices → (office s.books n).step ≡ step_in s.books.coordinator.phase

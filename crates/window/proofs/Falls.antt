@@ -14,7 +14,8 @@ use Rattle.window.specs.declared.setting_table.SettingTable.{SettingTable}
 use Rattle.window.specs.declared.books.OfficeRecord.{OfficeRecord}
 use Rattle.window.specs.declared.message.Message.{Message}
 use Rattle.window.specs.declared.message.Message.TheVariants.{Signal, Start, Close}
-use Rattle.window.specs.Parts.{Heard, byte_of, heard, heard_of, message, Followed, followed, followed_of, moved, signalled, office, no_office, slack, in_coordinator}
+use Rattle.window.specs.declared.books.Phase.TheVariants.{Open, Closed}
+use Rattle.window.specs.Parts.{step_in, is_closed, Heard, byte_of, heard, heard_of, message, Followed, followed, followed_of, moved, signalled, office, no_office, slack, in_coordinator}
 use Rattle.window.specs.Keeps.{each_keeps, hear_holds, follow_holds}
 use Rattle.window.specs.Turns.{State, Holds, at, tell, signal, with_each, drain, replies, hear, follow, coordinator_part, office_part, turn, WaitsAt, Busy}
 
@@ -29,7 +30,7 @@ rests b = sum_by (λ (o : OfficeRecord). o.remainder) b.table
 
 -- how often the coordinator can still speak to all
 pub ahead : Books → ℕ
-ahead b = (b.setting.steps - b.coordinator.step) + cond b.coordinator.closed 0 1
+ahead b = (b.setting.steps - step_in b.coordinator.phase) + cond (is_closed b.coordinator.phase) 0 1
 
 unfoldable pub potential : State → ℕ
 potential s = waits s.lanes + 65 * ahead s.books + rests s.books
@@ -70,7 +71,7 @@ rests_set b i n o le =
     (cases_lt i (length b.table))
 
 credit_record : Books → ℕ → OfficeRecord
-credit_record b i = record { step = (office b i).step; credit = (office b i).credit + slack b.setting b.coordinator.step; remainder = (office b i).remainder }
+credit_record b i = record { step = (office b i).step; credit = (office b i).credit + slack b.setting (step_in b.coordinator.phase); remainder = (office b i).remainder }
 
 spoken : Option Message → ℕ
 spoken None = 0
@@ -81,28 +82,28 @@ record Lower (b : Books) (h : Heard) : Type 0 where
   lower : ahead h.books + spoken h.reply ≤ ahead b
   setting : h.books.setting ≡ b.setting
 
-signalled_on : (i : ℕ) (b : Books) → b.coordinator.closed ≡ false → (t : Bool) → (u : Bool) → ltb b.coordinator.step b.setting.steps ≡ u →
+signalled_on : (i : ℕ) (b : Books) → is_closed b.coordinator.phase ≡ false → (t : Bool) → (u : Bool) → ltb (step_in b.coordinator.phase) b.setting.steps ≡ u →
     Lower b (cond t
     (cond u
-    (heard_of (in_coordinator b i (record { step = b.coordinator.step + 1; signals = 0; closed = false })) (Some (Start (b.coordinator.step + 1))))
-    (heard_of (in_coordinator b i (record { step = b.coordinator.step; signals = b.coordinator.signals + 1; closed = true })) (Some (Close b.coordinator.step))))
-    (heard_of (in_coordinator b i (record { step = b.coordinator.step; signals = b.coordinator.signals + 1; closed = false })) None))
+    (heard_of (in_coordinator b i (record { phase = Open (step_in b.coordinator.phase + 1); signals = 0 })) (Some (Start (step_in b.coordinator.phase + 1))))
+    (heard_of (in_coordinator b i (record { phase = Closed (step_in b.coordinator.phase); signals = b.coordinator.signals + 1 })) (Some (Close (step_in b.coordinator.phase)))))
+    (heard_of (in_coordinator b i (record { phase = Open (step_in b.coordinator.phase); signals = b.coordinator.signals + 1 })) None))
 unfolding rests ahead spoken credit_record
 signalled_on i b going true true e =
-    let was = ap (λ c. (b.setting.steps - b.coordinator.step) + cond c 0 1) going in
+    let was = ap (λ c. (b.setting.steps - step_in b.coordinator.phase) + cond c 0 1) going in
     record { rest = omega (arith, rests_set b i 0 (credit_record b i) (omega arith)); lower = omega (arith, was, ltb-true _ _ e); setting = refl }
 signalled_on i b going true false e =
-    let was = ap (λ c. (b.setting.steps - b.coordinator.step) + cond c 0 1) going in
+    let was = ap (λ c. (b.setting.steps - step_in b.coordinator.phase) + cond c 0 1) going in
     record { rest = omega (arith, rests_set b i 0 (credit_record b i) (omega arith)); lower = omega (arith, was); setting = refl }
 signalled_on i b going false u e =
-    let was = ap (λ c. (b.setting.steps - b.coordinator.step) + cond c 0 1) going in
+    let was = ap (λ c. (b.setting.steps - step_in b.coordinator.phase) + cond c 0 1) going in
     record { rest = omega (arith, rests_set b i 0 (credit_record b i) (omega arith)); lower = omega (arith, was); setting = refl }
 
 same_lower : (b : Books) → Lower b (heard_of b None)
 unfolding spoken
 same_lower b = record { rest = omega arith; lower = omega arith; setting = refl }
 
-signal_lower : (i j : ℕ) (b : Books) (c d : Bool) → b.coordinator.closed ≡ c → Lower b (cond c (heard_of b None) (cond d (signalled i b) (heard_of b None)))
+signal_lower : (i j : ℕ) (b : Books) (c d : Bool) → is_closed b.coordinator.phase ≡ c → Lower b (cond c (heard_of b None) (cond d (signalled i b) (heard_of b None)))
 unfolding signalled
 signal_lower i j b true d e = same_lower b
 signal_lower i j b false true e = signalled_on i b e _ _ refl

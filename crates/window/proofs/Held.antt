@@ -5,7 +5,7 @@ use Rattle.rules.specs.Rules.{Setting, divisor, State as Rules-state, no_account
 use Rattle.rules.specs.Runs.{Answer}
 use Rattle.rules.proofs.Machine.{ended}
 use Rattle.window.specs.declared.setting_table.SettingTable.{SettingTable}
-use Rattle.window.specs.Parts.{office, slack}
+use Rattle.window.specs.Parts.{step_in, is_closed, office, slack}
 use Rattle.window.specs.Turns.{State}
 use Rattle.window.proofs.Even.{Even}
 
@@ -18,9 +18,9 @@ pub record SameTerms (l : Setting) (t : SettingTable) : Type 0 where
 
 -- a window's state is that of the rules, office by office
 pub record Shows (k : ℕ) (r : Rules-state) (s : State) : Type 0 where
-  pub step : s.books.coordinator.step ≡ r.coordinator.step
+  pub step : step_in s.books.coordinator.phase ≡ r.coordinator.step
   pub signals : s.books.coordinator.signals ≡ r.coordinator.signals
-  pub closed : s.books.coordinator.closed ≡ not r.coordinator.is_open
+  pub closed : is_closed s.books.coordinator.phase ≡ not r.coordinator.is_open
   pub credits : (n : ℕ) → n < k → (office s.books n).credit ≡ (get_or r.accounts n no_account).credit
   pub remainders : (n : ℕ) → n < k → (office s.books n).remainder ≡ (get_or r.offices n no_office).remainder
   pub ups : (n : ℕ) → n < k → (lane s.lanes (2 * n)).sent ≡ (get_or r.accounts n no_account).up.sent

@@ -16,7 +16,8 @@ use Rattle.window.specs.declared.setting_table.SettingTable.{SettingTable}
 use Rattle.window.specs.declared.books.Books.{Books}
 use Rattle.window.specs.declared.books.Coordinator.{Coordinator}
 use Rattle.window.specs.declared.books.OfficeRecord.{OfficeRecord}
-use Rattle.window.specs.Parts.{office, no_office, slack, quota, in_coordinator, due, counted}
+use Rattle.window.specs.declared.books.Phase.TheVariants.{Open, Closed}
+use Rattle.window.specs.Parts.{step_in, is_closed, office, no_office, slack, quota, in_coordinator, due, counted}
 use Rattle.window.specs.Turns.{State, at}
 use Rattle.window.proofs.After.{moved_record, whole, sumq, started, Carried, After, goes_on, ends, moves_on, Accepted, counts, signals}
 use Rattle.window.proofs.Even.{Even}
@@ -75,12 +76,12 @@ module _ (b : Books) (m : ℕ) (less : m < length b.table) where
 
   module _ (h : Coordinator) where
     abbrev credit_record : OfficeRecord
-    credit_record = record { step = (office b m).step; credit = (office b m).credit + slack b.setting b.coordinator.step; remainder = (office b m).remainder }
+    credit_record = record { step = (office b m).step; credit = (office b m).credit + slack b.setting (step_in b.coordinator.phase); remainder = (office b m).remainder }
 
-    coordinated_credit : (n : ℕ) → (office (in_coordinator b m h) n).credit ≡ (office b n).credit + one n m * slack b.setting b.coordinator.step
+    coordinated_credit : (n : ℕ) → (office (in_coordinator b m h) n).credit ≡ (office b n).credit + one n m * slack b.setting (step_in b.coordinator.phase)
     coordinated_credit n = ap (λ (o : OfficeRecord). o.credit) (record_by b.table m n _ less) ∙ go (eqb n m) (λ e. eqb-true n m e)
       where
-        go : (x : Bool) → (x ≡ true → n ≡ m) → (cond x credit_record (office b n)).credit ≡ (office b n).credit + cond x 1 0 * slack b.setting b.coordinator.step
+        go : (x : Bool) → (x ≡ true → n ≡ m) → (cond x credit_record (office b n)).credit ≡ (office b n).credit + cond x 1 0 * slack b.setting (step_in b.coordinator.phase)
         go true e = omega (arith, ap (λ n. (office b n).credit) (e refl))
         go false e = omega arith
 
@@ -105,7 +106,7 @@ sum_below q (suc k) = omega (arith, sum_below q k, below_suc k q)
 
 -- rows that agree
 module _ (k : ℕ) (r : Rules-state) (coordinator : Rules-coordinator) (c a u d : ℕ → ℕ) (rows : Rows k r coordinator c a u d) where
-  shows : (v : State) → v.books.coordinator.step ≡ coordinator.step → v.books.coordinator.signals ≡ coordinator.signals → v.books.coordinator.closed ≡ not coordinator.is_open
+  shows : (v : State) → step_in v.books.coordinator.phase ≡ coordinator.step → v.books.coordinator.signals ≡ coordinator.signals → is_closed v.books.coordinator.phase ≡ not coordinator.is_open
       → ((n : ℕ) → n < k → (office v.books n).credit ≡ c n) → ((n : ℕ) → n < k → (office v.books n).remainder ≡ a n)
       → ((n : ℕ) → n < k → (lane v.lanes (2 * n)).sent ≡ u n) → ((n : ℕ) → n < k → (lane v.lanes (2 * n + 1)).sent ≡ d n) → Shows k r v
   shows v e₁ e₂ e₃ f₁ f₂ f₃ f₄ = record {
@@ -135,10 +136,10 @@ module _ (l : Setting) (ok : Sound l) (j sg m : ℕ) (ds : List Account) (os : L
   level : (n : ℕ) → n < l.offices → (office b n).step ≡ j
   level n less = even.level n (omega (arith, setting.offices)) ∙ sh.step
 
-  slack_j : slack b.setting b.coordinator.step ≡ l.slack j
+  slack_j : slack b.setting (step_in b.coordinator.phase) ≡ l.slack j
   slack_j = ap (slack b.setting) sh.step ∙ setting.slacks j i.high
 
-  quota_is : quota b.setting b.coordinator.step ≡ rules_quota l j
+  quota_is : quota b.setting (step_in b.coordinator.phase) ≡ rules_quota l j
   quota_is = ap (quota b.setting) sh.step ∙ ap (λ d. b.setting.offices * (d - 1)) (sym (setting.divisors j i.low i.high)) ∙ ap (λ k. k * (divisor l j - 1)) setting.offices
 
   due_slack : slack b.setting (office b m).step ≡ l.slack j
@@ -166,7 +167,7 @@ module _ (l : Setting) (ok : Sound l) (j sg m : ℕ) (ds : List Account) (os : L
     full_slack = omega (arith, eqb-true ((office b m).remainder + 1) (slack b.setting (office b m).step) is-due, sh.remainders m within, due_slack)
 
     credit₁ : (h : Coordinator) (n : ℕ) → n < l.offices → (office (in_coordinator b₁ m h) n).credit ≡ (get_or ds n no_account).credit + one n m * l.slack j
-    credit₁ h n less = coordinated_credit b₁ m table₁ h n ∙ ap (λ x. x + one n m * slack b.setting b.coordinator.step) (counted_credit b m table n ∙ sh.credits n less) ∙ ap (λ x. (get_or ds n no_account).credit + one n m * x) slack_j
+    credit₁ h n less = coordinated_credit b₁ m table₁ h n ∙ ap (λ x. x + one n m * slack b.setting (step_in b.coordinator.phase)) (counted_credit b m table n ∙ sh.credits n less) ∙ ap (λ x. (get_or ds n no_account).credit + one n m * x) slack_j
 
     remainder₁ : (h : Coordinator) (n : ℕ) → n < l.offices → (office (in_coordinator b₁ m h) n).remainder ≡ zeroed n m (get_or os n no_rules_office).remainder
     remainder₁ h n less = coordinated_remainder b₁ m table₁ h n ∙ counted_zero b m table is-due n ∙ ap (zeroed n m) (sh.remainders n less)
@@ -181,9 +182,9 @@ module _ (l : Setting) (ok : Sound l) (j sg m : ℕ) (ds : List Account) (os : L
     unfolding moved_record whole
     after_shows v (goes_on not_full is c) = (
       shows l.offices next _ _ _ _ _ (on_rows l ok j sg m ds os ns i within full_slack (omega (arith, i.phase.0, not_equal))) v
-          (ap (λ (b : Books). b.coordinator.step) is ∙ sh.step) (ap (λ (b : Books). b.coordinator.signals) is ∙ ap (λ x. x + 1) sh.signals) (ap (λ (b : Books). b.coordinator.closed) is)
-          (λ n less. ap (λ b. (office b n).credit) is ∙ credit₁ (record { step = b.coordinator.step; signals = b.coordinator.signals + 1; closed = false }) n less)
-          (λ n less. ap (λ b. (office b n).remainder) is ∙ remainder₁ (record { step = b.coordinator.step; signals = b.coordinator.signals + 1; closed = false }) n less)
+          (ap (λ (b : Books). step_in b.coordinator.phase) is ∙ sh.step) (ap (λ (b : Books). b.coordinator.signals) is ∙ ap (λ x. x + 1) sh.signals) (ap (λ (b : Books). is_closed b.coordinator.phase) is)
+          (λ n less. ap (λ b. (office b n).credit) is ∙ credit₁ (record { phase = Open (step_in b.coordinator.phase); signals = b.coordinator.signals + 1 }) n less)
+          (λ n less. ap (λ b. (office b n).remainder) is ∙ remainder₁ (record { phase = Open (step_in b.coordinator.phase); signals = b.coordinator.signals + 1 }) n less)
           (λ n less. omega (arith, up₁ (λ n. 0) 0 v c n less))
           (λ n less. omega (arith, down₁ (λ n. 0) 0 v c n less)),
       ap (λ (b : Books). b.setting) is,
@@ -193,26 +194,26 @@ module _ (l : Setting) (ok : Sound l) (j sg m : ℕ) (ds : List Account) (os : L
         not_equal e = not_full (omega (arith, sh.signals, quota_is))
     after_shows v (ends full-now last is c) = (
       shows l.offices next _ _ _ _ _ (last_rows l ok j sg m ds os ns i within full_slack (omega (arith, full-now, sh.signals, quota_is)) (omega (arith, last, setting.steps, sh.step))) v
-          (ap (λ (b : Books). b.coordinator.step) is ∙ sh.step) (ap (λ (b : Books). b.coordinator.signals) is ∙ ap (λ x. x + 1) sh.signals) (ap (λ (b : Books). b.coordinator.closed) is)
-          (λ n less. ap (λ b. (office b n).credit) is ∙ credit₁ (record { step = b.coordinator.step; signals = b.coordinator.signals + 1; closed = true }) n less)
-          (λ n less. ap (λ b. (office b n).remainder) is ∙ remainder₁ (record { step = b.coordinator.step; signals = b.coordinator.signals + 1; closed = true }) n less)
+          (ap (λ (b : Books). step_in b.coordinator.phase) is ∙ sh.step) (ap (λ (b : Books). b.coordinator.signals) is ∙ ap (λ x. x + 1) sh.signals) (ap (λ (b : Books). is_closed b.coordinator.phase) is)
+          (λ n less. ap (λ b. (office b n).credit) is ∙ credit₁ (record { phase = Closed (step_in b.coordinator.phase); signals = b.coordinator.signals + 1 }) n less)
+          (λ n less. ap (λ b. (office b n).remainder) is ∙ remainder₁ (record { phase = Closed (step_in b.coordinator.phase); signals = b.coordinator.signals + 1 }) n less)
           (λ n less. omega (arith, up₁ (λ n. 0) 1 v c n less))
           (down₁ (λ n. 0) 1 v c),
       ap (λ (b : Books). b.setting) is,
     )
     after_shows v (moves_on full-now more mo c) = (
       shows l.offices next _ _ _ _ _ (next_rows l ok j sg m ds os ns i within full_slack (omega (arith, full-now, sh.signals, quota_is)) (omega (arith, more, setting.steps, sh.step))) v
-          (ap (λ (h : Coordinator). h.step) mo.coordinator ∙ ap (λ x. x + 1) sh.step)
+          (ap (λ (h : Coordinator). step_in h.phase) mo.coordinator ∙ ap (λ x. x + 1) sh.step)
           (ap (λ (h : Coordinator). h.signals) mo.coordinator ∙ sum_below q b.setting.offices ∙ ap (λ k. below k q) setting.offices ∙ below_same l.offices q (λ n. zeroed n m (get_or os n no_rules_office).remainder / l.slack (j + 1)) q_is)
-          (ap (λ (h : Coordinator). h.closed) mo.coordinator)
+          (ap (λ (h : Coordinator). is_closed h.phase) mo.coordinator)
           (λ n less.
           ap (λ (o : OfficeRecord). o.credit) (mo.records n (omega (arith, setting.offices)))
-          ∙ ap (λ x. x + q n * slack b.setting (b.coordinator.step + 1)) (credit₁ (record { step = b.coordinator.step + 1; signals = 0; closed = false }) n less)
-          ∙ ap (λ x. (get_or ds n no_account).credit + one n m * l.slack j + x * slack b.setting (b.coordinator.step + 1)) (q_is n less)
+          ∙ ap (λ x. x + q n * slack b.setting (step_in b.coordinator.phase + 1)) (credit₁ (record { phase = Open (step_in b.coordinator.phase + 1); signals = 0 }) n less)
+          ∙ ap (λ x. (get_or ds n no_account).credit + one n m * l.slack j + x * slack b.setting (step_in b.coordinator.phase + 1)) (q_is n less)
           ∙ ap (λ x. (get_or ds n no_account).credit + one n m * l.slack j + zeroed n m (get_or os n no_rules_office).remainder / l.slack (j + 1) * x) slack_next)
           (λ n less.
           ap (λ (o : OfficeRecord). o.remainder) (mo.records n (omega (arith, setting.offices)))
-          ∙ ap (λ x. x % slack b.setting ((office (started m b₁) n).step + 1)) (remainder₁ (record { step = b.coordinator.step + 1; signals = 0; closed = false }) n less)
+          ∙ ap (λ x. x % slack b.setting ((office (started m b₁) n).step + 1)) (remainder₁ (record { phase = Open (step_in b.coordinator.phase + 1); signals = 0 }) n less)
           ∙ ap (λ x. zeroed n m (get_or os n no_rules_office).remainder % x) (own_next n less))
           (λ n less. up₁ q 1 v c n less ∙ ap (λ x. (get_or ds n no_account).up.sent + one n m + x) (q_is n less))
           (down₁ q 1 v c),
@@ -225,14 +226,14 @@ module _ (l : Setting) (ok : Sound l) (j sg m : ℕ) (ds : List Account) (os : L
         q : ℕ → ℕ
         q n = whole b.setting (office (started m b₁) n)
 
-        slack_next : slack b.setting (b.coordinator.step + 1) ≡ l.slack (j + 1)
+        slack_next : slack b.setting (step_in b.coordinator.phase + 1) ≡ l.slack (j + 1)
         slack_next = ap (λ x. slack b.setting (x + 1)) sh.step ∙ setting.slacks (j + 1) (omega arith)
 
         own_next : (n : ℕ) → n < l.offices → slack b.setting ((office (started m b₁) n).step + 1) ≡ l.slack (j + 1)
-        own_next n less = ap (λ x. slack b.setting (x + 1)) (coordinated_step b₁ m table₁ (record { step = b.coordinator.step + 1; signals = 0; closed = false }) n ∙ counted_step b m table n ∙ level n less) ∙ setting.slacks (j + 1) (omega arith)
+        own_next n less = ap (λ x. slack b.setting (x + 1)) (coordinated_step b₁ m table₁ (record { phase = Open (step_in b.coordinator.phase + 1); signals = 0 }) n ∙ counted_step b m table n ∙ level n less) ∙ setting.slacks (j + 1) (omega arith)
 
         q_is : (n : ℕ) → n < l.offices → q n ≡ zeroed n m (get_or os n no_rules_office).remainder / l.slack (j + 1)
-        q_is n less = ap (λ x. x / slack b.setting ((office (started m b₁) n).step + 1)) (remainder₁ (record { step = b.coordinator.step + 1; signals = 0; closed = false }) n less) ∙ ap (λ x. zeroed n m (get_or os n no_rules_office).remainder / x) (own_next n less)
+        q_is n less = ap (λ x. x / slack b.setting ((office (started m b₁) n).step + 1)) (remainder₁ (record { phase = Open (step_in b.coordinator.phase + 1); signals = 0 }) n less) ∙ ap (λ x. zeroed n m (get_or os n no_rules_office).remainder / x) (own_next n less)
 
   pub accepted_shows : (v : State) → Accepted m s v → (Shows l.offices next v) × (v.books.setting ≡ b.setting)
   accepted_shows v (counts no_due is) = (counts_shows v no_due is, ap (λ (s : State). s.books.setting) is)
@@ -274,12 +275,12 @@ module _ (l : Setting) (h : List ℕ) (used : Bool) (s : State) (re : Held l h u
   pub unknown_next : (eqb n 0 || ltb t.offices n) ≡ true → Next l h n used s (Err (fault In-window NoSuchOfficeOrLane n))
   unknown_next bad = refused_next (fault In-window NoSuchOfficeOrLane n) (cond-true _ _ _ (bad_is ∙ bad))
 
-  pub shut_next : (eqb n 0 || ltb t.offices n) ≡ false → s.books.coordinator.closed ≡ true → Next l h n used s (Err (fault In-window WindowClosed n))
+  pub shut_next : (eqb n 0 || ltb t.offices n) ≡ false → is_closed s.books.coordinator.phase ≡ true → Next l h n used s (Err (fault In-window WindowClosed n))
   shut_next good-n shut =
       let closed : (ended l h).coordinator.is_open ≡ false = not_false _ (sym shut ∙ re.shows.closed) in
       refused_next (fault In-window WindowClosed n) (cond-false _ _ _ (bad_is ∙ good-n) ∙ cond-false _ _ _ closed)
 
-  pub accepted_next : (eqb n 0 || ltb t.offices n) ≡ false → s.books.coordinator.closed ≡ false → (v : State) → Even v → Accepted (n - 1) s v → Next l h n used v (Ok tt)
+  pub accepted_next : (eqb n 0 || ltb t.offices n) ≡ false → is_closed s.books.coordinator.phase ≡ false → (v : State) → Even v → Accepted (n - 1) s v → Next l h n used v (Ok tt)
   accepted_next good-n going v even_v acc =
       let is_open : (ended l h).coordinator.is_open ≡ true = not_true _ (sym going ∙ re.shows.closed) in
       let yes : answer l (ended l h) n ≡ Ok tt = cond-false _ _ _ (bad_is ∙ good-n) ∙ cond-true _ _ _ is_open in

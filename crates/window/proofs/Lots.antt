@@ -10,7 +10,8 @@ use Rattle.window.specs.declared.books.Coordinator.{Coordinator}
 use Rattle.window.specs.declared.checked_books.CheckedBooks.{CheckedBooks}
 use Rattle.window.specs.declared.books.OfficeRecord.{OfficeRecord}
 use Rattle.window.specs.declared.message.Message.TheVariants.{Start, Close}
-use Rattle.window.specs.Parts.{Heard, heard_of, signalled, office, no_office, slack, quota, in_coordinator, due, counted}
+use Rattle.window.specs.declared.books.Phase.TheVariants.{Open, Closed}
+use Rattle.window.specs.Parts.{step_in, is_closed, Heard, heard_of, signalled, office, no_office, slack, quota, in_coordinator, due, counted}
 use Rattle.window.specs.Turns.{State, at, with_lanes, tell, replies, coordinator_part, office_part, turn, signal_and_settle, accepted}
 use Rattle.window.proofs.After.{moved_record, whole, sumq, MovedOn, After, goes_on, ends, moves_on, Accepted, counts, signals}
 use Rattle.window.proofs.Even.{Empty, Even}
@@ -22,7 +23,7 @@ use Rattle.window.proofs.Starts.{Moving, Crediting, start_part, sumq_less, credi
 module _ (b : Books) (i : ℕ) (h : Coordinator) where
   credited_record : (n : ℕ) → ((office (in_coordinator b i h) n).step ≡ (office b n).step) × ((office (in_coordinator b i h) n).remainder ≡ (office b n).remainder)
   credited_record n =
-      let o : OfficeRecord = record { step = (office b i).step; credit = (office b i).credit + slack b.setting b.coordinator.step; remainder = (office b i).remainder } in
+      let o : OfficeRecord = record { step = (office b i).step; credit = (office b i).credit + slack b.setting (step_in b.coordinator.phase); remainder = (office b i).remainder } in
       ⊎_elim
       (λ (e : n ≡ i). ⊎_elim
       (λ (less : i < length b.table).
@@ -62,9 +63,9 @@ once_down : (ls : List Lane) (i n : ℕ) → lane (once ls (2 * i)) (2 * n + 1) 
 unfolding once
 once_down ls i n = get_or-set_other ls (2 * i) (2 * n + 1) _ no_lane (λ e. omega arith)
 
-module _ (i : ℕ) (s : State) (even : Even s) (less : i < s.books.setting.offices) (going : s.books.coordinator.closed ≡ false)
-    (from : 1 ≤ s.books.coordinator.step) (to : s.books.coordinator.step ≤ s.books.setting.steps) (below : s.books.coordinator.signals < quota s.books.setting s.books.coordinator.step)
-    (left : (n : ℕ) → n < s.books.setting.offices → (office s.books n).remainder < slack s.books.setting s.books.coordinator.step)
+module _ (i : ℕ) (s : State) (even : Even s) (less : i < s.books.setting.offices) (going : is_closed s.books.coordinator.phase ≡ false)
+    (from : 1 ≤ step_in s.books.coordinator.phase) (to : step_in s.books.coordinator.phase ≤ s.books.setting.steps) (below : s.books.coordinator.signals < quota s.books.setting (step_in s.books.coordinator.phase))
+    (left : (n : ℕ) → n < s.books.setting.offices → (office s.books n).remainder < slack s.books.setting (step_in s.books.coordinator.phase))
     (none : (office s.books i).remainder ≡ 0) (few : (j : ℕ) → (lane s.lanes j).sent ≤ 16384) where
   k : ℕ
   k = s.books.setting.offices
@@ -75,13 +76,13 @@ module _ (i : ℕ) (s : State) (even : Even s) (less : i < s.books.setting.offic
   down_few : (n : ℕ) → n < s.books.setting.offices → (lane s.lanes (2 * n + 1)).sent ≤ 16384
   down_few n l = few (2 * n + 1)
 
-  small : s.books.coordinator.step < 32
+  small : step_in s.books.coordinator.phase < 32
   small = omega (arith, s.books.setting.most)
 
   -- the step goes on
-  even_signal : (s.books.coordinator.signals + 1 ≡ quota s.books.setting s.books.coordinator.step → ⊥) → (v : State) × (signal_and_settle i s ≡ fine v) × Even v × After i s v
+  even_signal : (s.books.coordinator.signals + 1 ≡ quota s.books.setting (step_in s.books.coordinator.phase) → ⊥) → (v : State) × (signal_and_settle i s ≡ fine v) × Even v × After i s v
   even_signal not_full =
-      let h : Coordinator = record { step = s.books.coordinator.step; signals = s.books.coordinator.signals + 1; closed = false } in
+      let h : Coordinator = record { phase = Open (step_in s.books.coordinator.phase); signals = s.books.coordinator.signals + 1 } in
       let e = even.empty in (
         at (in_coordinator s.books i h) (once s.lanes (2 * i)),
         settle_signal i s e less (omega (arith, up_few i less)) going (even.level i less) small not_full,
@@ -94,20 +95,20 @@ module _ (i : ℕ) (s : State) (even : Even s) (less : i < s.books.setting.offic
       )
 
   -- the last step ends
-  even_close : s.books.coordinator.signals + 1 ≡ quota s.books.setting s.books.coordinator.step → s.books.setting.steps ≤ s.books.coordinator.step → (v : State) × (signal_and_settle i s ≡ fine v) × Even v × After i s v
+  even_close : s.books.coordinator.signals + 1 ≡ quota s.books.setting (step_in s.books.coordinator.phase) → s.books.setting.steps ≤ step_in s.books.coordinator.phase → (v : State) × (signal_and_settle i s ≡ fine v) × Even v × After i s v
   unfolding signalled ready
   even_close full last =
-      let h : Coordinator = record { step = s.books.coordinator.step; signals = s.books.coordinator.signals + 1; closed = true } in
+      let h : Coordinator = record { phase = Closed (step_in s.books.coordinator.phase); signals = s.books.coordinator.signals + 1 } in
       let e = even.empty in
       let ls = once s.lanes (2 * i) in
       let b = in_coordinator s.books i h in
-      let followed = tell_fine s.books.setting.offices (96 + s.books.coordinator.step) ls (once_long s.lanes (2 * i) ∙ e.long) (λ n l. once_empty s.lanes (2 * i) (2 * n + 1) (e.down n l)) (λ n l. omega (arith, ap (λ (l : Lane). l.sent) (once_down s.lanes i n), down_few n l)) in
+      let followed = tell_fine s.books.setting.offices (96 + step_in s.books.coordinator.phase) ls (once_long s.lanes (2 * i) ∙ e.long) (λ n l. once_empty s.lanes (2 * i) (2 * n + 1) (e.down n l)) (λ n l. omega (arith, ap (λ (l : Lane). l.sent) (once_down s.lanes i n), down_few n l)) in
       let all = followed.2 in
       let t = at b followed.0 in
-      let is : signalled i s.books ≡ heard_of b (Some (Close s.books.coordinator.step)) = cond-true _ _ _ (eq-eqb _ _ full) ∙ cond-false _ _ _ (le-ltb _ _ last) in
+      let is : signalled i s.books ≡ heard_of b (Some (Close (step_in s.books.coordinator.phase))) = cond-true _ _ _ (eq-eqb _ _ full) ∙ cond-false _ _ _ (le-ltb _ _ last) in
       let long : length followed.0 ≡ 2 * s.books.setting.offices = all.long ∙ once_long s.lanes (2 * i) ∙ e.long in
       let up : (n : ℕ) → n < s.books.setting.offices → (lane followed.0 (2 * n)).waiting ≡ [] = λ n l. ap (λ (l : Lane). l.waiting) (all.up n) ∙ once_empty s.lanes (2 * i) (2 * n) (e.up n l) in
-      let shut = close_part s.books.setting.offices s.books.coordinator.step t small long (λ n l. ap (λ (l : Lane). l.waiting) (all.down n l)) in
+      let shut = close_part s.books.setting.offices (step_in s.books.coordinator.phase) t small long (λ n l. ap (λ (l : Lane). l.waiting) (all.down n l)) in
       let u = shut.0 in
       let c = shut.2 in
       let k_is : u.books.setting.offices ≡ s.books.setting.offices = ap (λ (b : Books). b.setting.offices) c.books in
@@ -122,7 +123,7 @@ module _ (i : ℕ) (s : State) (even : Even s) (less : i < s.books.setting.offic
         record {
           empty = calm;
           tall = ap (λ (b : Books). length b.table) c.books ∙ length-set s.books.table i _ ∙ even.tall;
-          level = λ n l. ap (λ (b : Books). (office b n).step) c.books ∙ (credited_record s.books i h n).0 ∙ even.level n (omega arith) ∙ sym (ap (λ (h : Coordinator). h.step) coordinator-is);
+          level = λ n l. ap (λ (b : Books). (office b n).step) c.books ∙ (credited_record s.books i h n).0 ∙ even.level n (omega arith) ∙ sym (ap (λ (h : Coordinator). step_in h.phase) coordinator-is);
         },
         ends full last c.books (record {
           up = λ n l. omega (arith, ap (λ (l : Lane). l.sent) (c.up n), ap (λ (l : Lane). l.sent) (all.up n), once_up s.lanes i n (omega (arith, e.long)));
@@ -131,48 +132,48 @@ module _ (i : ℕ) (s : State) (even : Even s) (less : i < s.books.setting.offic
       )
 
   -- a step ends and the next begins
-  module _ (full : s.books.coordinator.signals + 1 ≡ quota s.books.setting s.books.coordinator.step) (more : s.books.coordinator.step < s.books.setting.steps) where
+  module _ (full : s.books.coordinator.signals + 1 ≡ quota s.books.setting (step_in s.books.coordinator.phase)) (more : step_in s.books.coordinator.phase < s.books.setting.steps) where
     abbrev next_books : Books
-    next_books = in_coordinator s.books i (record { step = s.books.coordinator.step + 1; signals = 0; closed = false })
+    next_books = in_coordinator s.books i (record { phase = Open (step_in s.books.coordinator.phase + 1); signals = 0 })
 
     abbrev nq : ℕ → ℕ
     nq n = whole s.books.setting (office next_books n)
 
     abbrev nd : ℕ
-    nd = slack s.books.setting (s.books.coordinator.step + 1 - 1) / slack s.books.setting (s.books.coordinator.step + 1)
+    nd = slack s.books.setting (step_in s.books.coordinator.phase + 1 - 1) / slack s.books.setting (step_in s.books.coordinator.phase + 1)
 
-    behind : (n : ℕ) → n < s.books.setting.offices → (office next_books n).step + 1 ≡ s.books.coordinator.step + 1
+    behind : (n : ℕ) → n < s.books.setting.offices → (office next_books n).step + 1 ≡ step_in s.books.coordinator.phase + 1
     behind n l = omega (arith, (credited_record s.books i next_books.coordinator n).0, even.level n l)
 
     nd_low : 2 ≤ nd
-    nd_low = s.books.setting.low (s.books.coordinator.step + 1) (omega arith) (omega arith)
+    nd_low = s.books.setting.low (step_in s.books.coordinator.phase + 1) (omega arith) (omega arith)
 
     nd_high : nd ≤ 16
-    nd_high = s.books.setting.high (s.books.coordinator.step + 1) (omega arith) (omega arith)
+    nd_high = s.books.setting.high (step_in s.books.coordinator.phase + 1) (omega arith) (omega arith)
 
     q_less : (n : ℕ) → n < s.books.setting.offices → nq n < nd
     unfolding whole
     q_less n l =
         let T = s.books.setting in
-        let j-is : s.books.coordinator.step + 1 - 1 ≡ s.books.coordinator.step = omega arith in
-        let some : 0 < slack T (s.books.coordinator.step + 1) = T.grain (s.books.coordinator.step + 1) (omega arith) in
+        let j-is : step_in s.books.coordinator.phase + 1 - 1 ≡ step_in s.books.coordinator.phase = omega arith in
+        let some : 0 < slack T (step_in s.books.coordinator.phase + 1) = T.grain (step_in s.books.coordinator.phase + 1) (omega arith) in
         let r-is : (office next_books n).remainder ≡ (office s.books n).remainder = (credited_record s.books i next_books.coordinator n).1 in
-        let rung : slack T s.books.coordinator.step ≡ nd * slack T (s.books.coordinator.step + 1) = ap (slack T) (sym j-is) ∙ T.rung (s.books.coordinator.step + 1) (omega arith) (omega arith) in
-        let under : (office next_books n).remainder < nd * slack T (s.books.coordinator.step + 1) = omega (arith, left n l, rung, r-is) in
-        let quotient : (office next_books n).remainder / slack T (s.books.coordinator.step + 1) < nd = (div-lt_iff_lt-mul some).1 under in
+        let rung : slack T (step_in s.books.coordinator.phase) ≡ nd * slack T (step_in s.books.coordinator.phase + 1) = ap (slack T) (sym j-is) ∙ T.rung (step_in s.books.coordinator.phase + 1) (omega arith) (omega arith) in
+        let under : (office next_books n).remainder < nd * slack T (step_in s.books.coordinator.phase + 1) = omega (arith, left n l, rung, r-is) in
+        let quotient : (office next_books n).remainder / slack T (step_in s.books.coordinator.phase + 1) < nd = (div-lt_iff_lt-mul some).1 under in
         subst (λ m. (office next_books n).remainder / slack T m < nd) (sym (behind n l)) quotient
 
     q_none : nq i ≡ 0
     unfolding whole
     q_none = omega (arith, div-le_self (office next_books i).remainder (slack s.books.setting ((office next_books i).step + 1)), (credited_record s.books i next_books.coordinator i).1, none)
 
-    sum_less : sumq nq s.books.setting.offices < quota s.books.setting (s.books.coordinator.step + 1)
+    sum_less : sumq nq s.books.setting.offices < quota s.books.setting (step_in s.books.coordinator.phase + 1)
     sum_less = omega (arith, nd_low, sumq_less nq (nd - 1) i s.books.setting.offices less q_none (λ n l. omega (arith, q_less n l)))
 
     tall_next : length next_books.table ≡ 64
     tall_next = length-set s.books.table i _ ∙ even.tall
 
-    module _ (ls : List Lane) (followed : tell s.books.setting.offices (64 + (s.books.coordinator.step + 1)) (once s.lanes (2 * i)) ≡ fine ls) (all : AllTold s.books.setting.offices (64 + (s.books.coordinator.step + 1)) (once s.lanes (2 * i)) ls) where
+    module _ (ls : List Lane) (followed : tell s.books.setting.offices (64 + (step_in s.books.coordinator.phase + 1)) (once s.lanes (2 * i)) ≡ fine ls) (all : AllTold s.books.setting.offices (64 + (step_in s.books.coordinator.phase + 1)) (once s.lanes (2 * i)) ls) where
       long_t : length ls ≡ 2 * s.books.setting.offices
       long_t = all.long ∙ once_long s.lanes (2 * i) ∙ even.empty.long
 
@@ -182,18 +183,18 @@ module _ (i : ℕ) (s : State) (even : Even s) (less : i < s.books.setting.offic
       spoke : replies (signalled i s.books).reply (signalled i s.books).books (once s.lanes (2 * i)) ≡ fine (at next_books ls)
       unfolding signalled
       spoke =
-          let is : signalled i s.books ≡ heard_of next_books (Some (Start (s.books.coordinator.step + 1))) = cond-true _ _ _ (eq-eqb _ _ full) ∙ cond-true _ _ _ (lt-ltb _ _ more) in
+          let is : signalled i s.books ≡ heard_of next_books (Some (Start (step_in s.books.coordinator.phase + 1))) = cond-true _ _ _ (eq-eqb _ _ full) ∙ cond-true _ _ _ (lt-ltb _ _ more) in
           ap (λ (h : Heard). replies h.reply h.books (once s.lanes (2 * i))) is ∙ ap (with_lanes next_books) followed
 
-      module _ (u : State) (moves : office_part s.books.setting.offices (at next_books ls) ≡ fine u) (mv : Moving (s.books.coordinator.step + 1) s.books.setting.offices (at next_books ls) u) where
-        step_u : u.books.coordinator.step ≡ s.books.coordinator.step + 1
-        step_u = ap (λ (h : Coordinator). h.step) mv.coordinator
+      module _ (u : State) (moves : office_part s.books.setting.offices (at next_books ls) ≡ fine u) (mv : Moving (step_in s.books.coordinator.phase + 1) s.books.setting.offices (at next_books ls) u) where
+        step_u : step_in u.books.coordinator.phase ≡ step_in s.books.coordinator.phase + 1
+        step_u = ap (λ (h : Coordinator). step_in h.phase) mv.coordinator
 
         k_u : u.books.setting.offices ≡ s.books.setting.offices
         k_u = ap (λ (t : SettingTable). t.offices) mv.setting
 
-        quota_u : quota u.books.setting u.books.coordinator.step ≡ quota s.books.setting (s.books.coordinator.step + 1)
-        quota_u = ap (λ t. quota t u.books.coordinator.step) mv.setting ∙ ap (quota s.books.setting) step_u
+        quota_u : quota u.books.setting (step_in u.books.coordinator.phase) ≡ quota s.books.setting (step_in s.books.coordinator.phase + 1)
+        quota_u = ap (λ t. quota t (step_in u.books.coordinator.phase)) mv.setting ∙ ap (quota s.books.setting) step_u
 
         module _ (v : State) (credited : coordinator_part s.books.setting.offices u ≡ fine v) (c : Crediting nq s.books.setting.offices u v) where
           k_v : v.books.setting.offices ≡ s.books.setting.offices
@@ -209,8 +210,8 @@ module _ (i : ℕ) (s : State) (even : Even s) (less : i < s.books.setting.offic
           unfolding turn
           turned = then_fine _ (ap (λ k. coordinator_part k u) k_u ∙ credited) ∙ ap (λ k. office_part k v) k_v ∙ office_skip v s.books.setting.offices long_v down_v
 
-          step_v : v.books.coordinator.step ≡ s.books.coordinator.step + 1
-          step_v = ap (λ (h : Coordinator). h.step) c.coordinator ∙ step_u
+          step_v : step_in v.books.coordinator.phase ≡ step_in s.books.coordinator.phase + 1
+          step_v = ap (λ (h : Coordinator). step_in h.phase) c.coordinator ∙ step_u
 
           even_v : Even v
           unfolding moved_record
@@ -226,11 +227,11 @@ module _ (i : ℕ) (s : State) (even : Even s) (less : i < s.books.setting.offic
           unfolding moved_record
           moved_on = record {
             setting = c.setting ∙ mv.setting;
-            coordinator = c.coordinator ∙ ap (λ n. record { step = n; signals = sumq nq s.books.setting.offices; closed = false }) step_u;
+            coordinator = c.coordinator ∙ ap (λ n. record { phase = Open n; signals = sumq nq s.books.setting.offices }) step_u;
             records = λ n l.
                 c.records n l
-                ∙ ap (λ z. record { step = (office u.books n).step; credit = (office u.books n).credit + nq n * z; remainder = (office u.books n).remainder }) (ap (λ t. slack t u.books.coordinator.step) mv.setting ∙ ap (slack s.books.setting) step_u)
-                ∙ ap (λ (o : OfficeRecord). record { step = o.step; credit = o.credit + nq n * slack s.books.setting (s.books.coordinator.step + 1); remainder = o.remainder }) (mv.records n l);
+                ∙ ap (λ z. record { step = (office u.books n).step; credit = (office u.books n).credit + nq n * z; remainder = (office u.books n).remainder }) (ap (λ t. slack t (step_in u.books.coordinator.phase)) mv.setting ∙ ap (slack s.books.setting) step_u)
+                ∙ ap (λ (o : OfficeRecord). record { step = o.step; credit = o.credit + nq n * slack s.books.setting (step_in s.books.coordinator.phase + 1); remainder = o.remainder }) (mv.records n l);
           }
 
           next_v : (signal_and_settle i s ≡ fine v) × Even v × After i s v
@@ -246,32 +247,32 @@ module _ (i : ℕ) (s : State) (even : Even s) (less : i < s.books.setting.offic
 
         next_u : (v : State) × (signal_and_settle i s ≡ fine v) × Even v × After i s v
         next_u =
-            let r = credit_part s.books.setting.offices nq u (ap (λ (h : Coordinator). h.closed) mv.coordinator) (ap (λ (h : Coordinator). h.signals) mv.coordinator) (omega (arith, step_u, small, s.books.setting.most)) (omega (arith, mv.tall, tall_next, s.books.setting.few)) (mv.long ∙ long_t)
+            let r = credit_part s.books.setting.offices nq u (ap (λ (h : Coordinator). is_closed h.phase) mv.coordinator) (ap (λ (h : Coordinator). h.signals) mv.coordinator) (omega (arith, step_u, small, s.books.setting.most)) (omega (arith, mv.tall, tall_next, s.books.setting.few)) (mv.long ∙ long_t)
             (λ n l. ap (λ (l : Lane). l.waiting) (mv.up n l) ∙ ap (λ m. replicate (nq n) (32 + m)) (sym step_u)) (omega (arith, quota_u, sum_less)) in
             let z = next_v r.0 r.1 r.2 in
             (r.0, z.0, z.1, z.2)
 
       next_t : (v : State) × (signal_and_settle i s ≡ fine v) × Even v × After i s v
       next_t =
-          let r = start_part s.books.setting.offices (s.books.coordinator.step + 1) (at next_books ls) (omega (arith, s.books.setting.most)) (omega arith) (omega (arith, tall_next, s.books.setting.few)) long_t behind up_t
+          let r = start_part s.books.setting.offices (step_in s.books.coordinator.phase + 1) (at next_books ls) (omega (arith, s.books.setting.most)) (omega arith) (omega (arith, tall_next, s.books.setting.few)) long_t behind up_t
           (λ n l. ap (λ (l : Lane). l.waiting) (all.down n l)) (λ n l. omega (arith, q_less n l, nd_high)) (λ n l. omega (arith, q_less n l, nd_high, ap (λ (l : Lane). l.sent) (all.up n), once_sent s.lanes (2 * i) (2 * n), up_few n l)) in
           next_u r.0 r.1 r.2
 
     even_next : (v : State) × (signal_and_settle i s ≡ fine v) × Even v × After i s v
     even_next =
-        let r = tell_fine s.books.setting.offices (64 + (s.books.coordinator.step + 1)) (once s.lanes (2 * i)) (once_long s.lanes (2 * i) ∙ even.empty.long) (λ n l. once_empty s.lanes (2 * i) (2 * n + 1) (even.empty.down n l)) (λ n l. omega (arith, ap (λ (l : Lane). l.sent) (once_down s.lanes i n), down_few n l)) in
+        let r = tell_fine s.books.setting.offices (64 + (step_in s.books.coordinator.phase + 1)) (once s.lanes (2 * i)) (once_long s.lanes (2 * i) ∙ even.empty.long) (λ n l. once_empty s.lanes (2 * i) (2 * n + 1) (even.empty.down n l)) (λ n l. omega (arith, ap (λ (l : Lane). l.sent) (once_down s.lanes i n), down_few n l)) in
         next_t r.0 r.1 r.2
 
   -- whatever the signal brings about
   pub even_report : (v : State) × (signal_and_settle i s ≡ fine v) × Even v × After i s v
   even_report =
       ⊎_elim
-      (λ (full : s.books.coordinator.signals + 1 ≡ quota s.books.setting s.books.coordinator.step). ⊎_elim (λ l. even_next full l) (λ m. even_close full m) (cases_lt s.books.coordinator.step s.books.setting.steps))
-      (λ (not_full : s.books.coordinator.signals + 1 ≡ quota s.books.setting s.books.coordinator.step → ⊥). even_signal not_full)
-      (cases_eq (s.books.coordinator.signals + 1) (quota s.books.setting s.books.coordinator.step))
+      (λ (full : s.books.coordinator.signals + 1 ≡ quota s.books.setting (step_in s.books.coordinator.phase)). ⊎_elim (λ l. even_next full l) (λ m. even_close full m) (cases_lt (step_in s.books.coordinator.phase) s.books.setting.steps))
+      (λ (not_full : s.books.coordinator.signals + 1 ≡ quota s.books.setting (step_in s.books.coordinator.phase) → ⊥). even_signal not_full)
+      (cases_eq (s.books.coordinator.signals + 1) (quota s.books.setting (step_in s.books.coordinator.phase)))
 
 -- an accepted lot
-module _ (d : CheckedBooks) (ls : List Lane) (even : Even (at d.books ls)) (i : ℕ) (less : i < d.books.setting.offices) (going : d.books.coordinator.closed ≡ false) (few : (j : ℕ) → (lane ls j).sent ≤ 16384) where
+module _ (d : CheckedBooks) (ls : List Lane) (even : Even (at d.books ls)) (i : ℕ) (less : i < d.books.setting.offices) (going : is_closed d.books.coordinator.phase ≡ false) (few : (j : ℕ) → (lane ls j).sent ≤ 16384) where
   in_table : i < length d.books.table
   in_table = omega (arith, even.tall, d.books.setting.few)
 
@@ -294,9 +295,9 @@ module _ (d : CheckedBooks) (ls : List Lane) (even : Even (at d.books ls)) (i : 
         (cases_eq n i);
   }
 
-  left_counted : due i d.books ≡ true → (n : ℕ) → n < d.books.setting.offices → (office (counted i d.books) n).remainder < slack d.books.setting d.books.coordinator.step
+  left_counted : due i d.books ≡ true → (n : ℕ) → n < d.books.setting.offices → (office (counted i d.books) n).remainder < slack d.books.setting (step_in d.books.coordinator.phase)
   left_counted is n l =
-      let some : 0 < slack d.books.setting d.books.coordinator.step = d.books.setting.grain d.books.coordinator.step d.to in
+      let some : 0 < slack d.books.setting (step_in d.books.coordinator.phase) = d.books.setting.grain (step_in d.books.coordinator.phase) d.to in
       ⊎_elim
       (λ (e : n ≡ i). omega (arith, some, ap (λ n. (office (counted i d.books) n).remainder) e, ap (λ (o : OfficeRecord). o.remainder) record_here, cond-true (due i d.books) 0 ((office d.books i).remainder + 1) is))
       (λ (ne : n ≡ i → ⊥).

@@ -17,7 +17,7 @@ use Rattle.rules.proofs.Step.{below, below_zero, below_same, below_first, total_
 use Rattle.window.specs.declared.setting_table.SettingTable.{SettingTable}
 use Rattle.window.specs.declared.checked_books.CheckedBooks.{CheckedBooks}
 use Rattle.window.specs.declared.books.OfficeRecord.{OfficeRecord}
-use Rattle.window.specs.Parts.{office, slack, no_office as no_record}
+use Rattle.window.specs.Parts.{step_in, office, slack, no_office as no_record}
 use Rattle.window.specs.Turns.{State, at}
 use Rattle.window.specs.Windows.{setting_in, shown, ReachedBy}
 use Rattle.window.proofs.Held.{SameTerms, Held, Next}
@@ -202,7 +202,7 @@ module _ (d : CheckedBooks) (ls : List Lane) (used : Bool) (lots : List ℕ) (rs
       let m : n + 1 - 1 ≡ n = omega arith in
       ap (λ m. (office d.books m).step) (sym m) ∙ (re.own_steps (n + 1) (omega arith) (omega arith) ∙ (ap (λ m. (get_or re.after.offices m no_office).own_step) m ∙ ap (λ (r : Rules-state). (get_or r.offices n no_office).own_step) (sym is_run.1)))
 
-  step_is : d.books.coordinator.step ≡ end₀.coordinator.step
+  step_is : step_in d.books.coordinator.phase ≡ end₀.coordinator.step
   step_is = ap (λ (b : Books-shown). b.step) books_are
 
   pub to_held : Held l₀ lots used (at d.books ls)

@@ -1,14 +1,16 @@
 -- What always holds of the books, and what keeps it. Assumes nothing.
-use Rattle.std.proofs.Common.{◌≡◌, ℕ, ◌+◌, ◌-◌, ◌*◌, ◌/◌, ◌%◌, ◌^◌, ◌<◌, ◌≤◌, Bool, true, false, List, length, get_or, set, sym, refl, ap, ◌∙◌, subst, ⊎_elim, mul-le-mul_right, mod-lt, mul_assoc, add-mul, mul-le-mul, mul-pos, mul-one, mul-add, arith, lit≤}
+use Rattle.std.proofs.Common.{◌≡◌, ℕ, ◌+◌, ◌-◌, ◌*◌, ◌/◌, ◌%◌, ◌^◌, ◌<◌, ◌≤◌, true, false, List, length, get_or, set, sym, refl, ap, ◌∙◌, subst, ⊎_elim, mul-le-mul_right, mod-lt, mul_assoc, add-mul, mul-le-mul, mul-pos, mul-one, mul-add, arith, lit≤}
 use Rattle.window.specs.Opening.{opened}
 use Rattle.std.proofs.lemmas.Bool.{cases_eq, cases_lt, true≢false, false≢true}
 use Rattle.std.proofs.lemmas.List.{get_or-set_same, get_or-set_other, set_past, get_or-replicate, length-set}
 use Rattle.window.specs.declared.setting_table.SettingTable.{SettingTable}
 use Rattle.window.specs.declared.books.Coordinator.{Coordinator}
+use Rattle.window.specs.declared.books.Phase.{Phase}
+use Rattle.window.specs.declared.books.Phase.TheVariants.{Open, Closed}
 use Rattle.window.specs.declared.books.OfficeRecord.{OfficeRecord}
 use Rattle.window.specs.declared.books.Books.{Books}
 use Rattle.window.specs.declared.checked_books.CheckedBooks.{CheckedBooks}
-use Rattle.window.specs.Parts.{slack, quota, office, no_office, Paid, in_coordinator, in_office}
+use Rattle.window.specs.Parts.{step_in, is_closed, slack, quota, office, no_office, Paid, in_coordinator, in_office}
 
 -- k × (d - 1) signals and one slack each make k of the slack above
 pub quota_fills : (k d s : ℕ) → 1 ≤ d → k * (d - 1) * s + k * s ≡ k * (d * s)
@@ -16,13 +18,18 @@ quota_fills k d s some =
     let e : (d - 1) + 1 ≡ d = omega arith in
     sym (add-mul (k * (d - 1)) k s) ∙ ap (λ n. n * s) (ap (λ n. k * (d - 1) + n) (sym (mul-one k)) ∙ sym (mul-add k (d - 1) 1) ∙ ap (λ n. k * n) e) ∙ mul_assoc k d s
 
+-- a phase that is not closed is open at its step
+pub open_at : (p : Phase) → is_closed p ≡ false → p ≡ Open (step_in p)
+open_at (Open j) going = refl
+open_at (Closed j) going = absurd (true≢false going)
+
 pub record Coordinator-law (t : SettingTable) (h : Coordinator) : Type 0 where
-  pub from : 1 ≤ h.step
-  pub to : h.step ≤ t.steps
-  pub few : h.signals ≤ quota t h.step
-  pub going : h.closed ≡ false → h.signals < quota t h.step
-  pub over : h.closed ≡ true → h.signals ≡ quota t h.step
-  pub last : h.closed ≡ true → h.step ≡ t.steps
+  pub from : 1 ≤ step_in h.phase
+  pub to : step_in h.phase ≤ t.steps
+  pub few : h.signals ≤ quota t (step_in h.phase)
+  pub going : is_closed h.phase ≡ false → h.signals < quota t (step_in h.phase)
+  pub over : is_closed h.phase ≡ true → h.signals ≡ quota t (step_in h.phase)
+  pub last : is_closed h.phase ≡ true → step_in h.phase ≡ t.steps
 
 pub record Record-law (t : SettingTable) (h : Coordinator) (o : OfficeRecord) : Type 0 where
   pub from : 1 ≤ o.step
@@ -30,9 +37,13 @@ pub record Record-law (t : SettingTable) (h : Coordinator) (o : OfficeRecord) : 
   pub left : o.remainder < slack t o.step
   pub paid : Paid t h o
 
+-- a slack of step j in the credit of office i, and the coordinator's record
+abbrev pub credited_at : Books → ℕ → ℕ → Coordinator → Books
+credited_at b i j h = record { setting = b.setting; coordinator = h; table = set b.table i (record { step = (office b i).step; credit = (office b i).credit + slack b.setting j; remainder = (office b i).remainder }) }
+
 -- the coordinator's record gained a slack at least
 unfoldable pub Gained : SettingTable → Coordinator → Coordinator → Type 0
-Gained t h h' = t.offices * slack t (h'.step - 1) + h.signals * slack t h.step + slack t h.step ≤ t.offices * slack t (h.step - 1) + h'.signals * slack t h'.step
+Gained t h h' = t.offices * slack t (step_in h'.phase - 1) + h.signals * slack t (step_in h.phase) + slack t (step_in h.phase) ≤ t.offices * slack t (step_in h.phase - 1) + h'.signals * slack t (step_in h'.phase)
 
 -- a table with one entry written: what holds of the new and of all the old ones
 pub written : (P : OfficeRecord → Type 0) (l : List OfficeRecord) (i : ℕ) (o : OfficeRecord) → P o → ((n : ℕ) → n < 64 → P (get_or l n no_office)) → (n : ℕ) → n < 64 → P (get_or (set l i o) n no_office)
@@ -62,34 +73,35 @@ module _ (d : CheckedBooks) where
       (λ n l. let p = record_law n l in record { from = p.from; to = p.to; left = p.left; paid = omega (arith, p.paid) })
 
   -- one signal more at the same step
-  pub gained_same : (b : Bool) → Gained d.books.setting d.books.coordinator (record { step = d.books.coordinator.step; signals = d.books.coordinator.signals + 1; closed = b })
+  pub gained_same : (p : Phase) → step_in p ≡ step_in d.books.coordinator.phase → Gained d.books.setting d.books.coordinator (record { phase = p; signals = d.books.coordinator.signals + 1 })
   unfolding Gained
-  gained_same b = omega (arith, add-mul d.books.coordinator.signals 1 (slack d.books.setting d.books.coordinator.step))
+  gained_same p same =
+      rw same (omega (arith, add-mul d.books.coordinator.signals 1 (slack d.books.setting (step_in d.books.coordinator.phase))))
 
   divisor : ℕ
-  divisor = slack d.books.setting (d.books.coordinator.step - 1) / slack d.books.setting d.books.coordinator.step
+  divisor = slack d.books.setting (step_in d.books.coordinator.phase - 1) / slack d.books.setting (step_in d.books.coordinator.phase)
 
-  filled : d.books.setting.offices * (divisor - 1) * slack d.books.setting d.books.coordinator.step + d.books.setting.offices * slack d.books.setting d.books.coordinator.step ≡ d.books.setting.offices * slack d.books.setting (d.books.coordinator.step - 1)
+  filled : d.books.setting.offices * (divisor - 1) * slack d.books.setting (step_in d.books.coordinator.phase) + d.books.setting.offices * slack d.books.setting (step_in d.books.coordinator.phase) ≡ d.books.setting.offices * slack d.books.setting (step_in d.books.coordinator.phase - 1)
   unfolding divisor
   filled =
-      let low : 2 ≤ divisor = d.books.setting.low d.books.coordinator.step d.from d.to in
-      quota_fills d.books.setting.offices divisor (slack d.books.setting d.books.coordinator.step) (omega arith)
-      ∙ ap (λ n. d.books.setting.offices * n) (sym (d.books.setting.rung d.books.coordinator.step d.from d.to))
+      let low : 2 ≤ divisor = d.books.setting.low (step_in d.books.coordinator.phase) d.from d.to in
+      quota_fills d.books.setting.offices divisor (slack d.books.setting (step_in d.books.coordinator.phase)) (omega arith)
+      ∙ ap (λ n. d.books.setting.offices * n) (sym (d.books.setting.rung (step_in d.books.coordinator.phase) d.from d.to))
 
   -- the last signal of a step
-  pub gained_next : d.books.coordinator.signals + 1 ≡ quota d.books.setting d.books.coordinator.step → Gained d.books.setting d.books.coordinator (record { step = d.books.coordinator.step + 1; signals = 0; closed = false })
+  pub gained_next : d.books.coordinator.signals + 1 ≡ quota d.books.setting (step_in d.books.coordinator.phase) → Gained d.books.setting d.books.coordinator (record { phase = Open (step_in d.books.coordinator.phase + 1); signals = 0 })
   unfolding Gained divisor
   gained_next full =
-      let s = slack d.books.setting d.books.coordinator.step in
-      let e : d.books.coordinator.step + 1 - 1 ≡ d.books.coordinator.step = omega arith in
+      let s = slack d.books.setting (step_in d.books.coordinator.phase) in
+      let e : step_in d.books.coordinator.phase + 1 - 1 ≡ step_in d.books.coordinator.phase = omega arith in
       rw e (omega (arith, add-mul d.books.coordinator.signals 1 s, ap (λ n. n * s) full, filled))
 
   -- the credit of one slack more fits
-  pub credit_fits : (i : ℕ) → i < 64 → d.books.coordinator.closed ≡ false → (office d.books i).credit + slack d.books.setting d.books.coordinator.step < 2 ^ 32
+  pub credit_fits : (i : ℕ) → i < 64 → is_closed d.books.coordinator.phase ≡ false → (office d.books i).credit + slack d.books.setting (step_in d.books.coordinator.phase) < 2 ^ 32
   unfolding divisor
   credit_fits i few going =
-      let s = slack d.books.setting d.books.coordinator.step in
-      let less : d.books.coordinator.signals + 1 ≤ quota d.books.setting d.books.coordinator.step = omega (arith, d.going going) in
+      let s = slack d.books.setting (step_in d.books.coordinator.phase) in
+      let less : d.books.coordinator.signals + 1 ≤ quota d.books.setting (step_in d.books.coordinator.phase) = omega (arith, d.going going) in
       let top : d.books.setting.offices * slack d.books.setting 0 ≤ 64 * 16777216 = mul-le-mul d.books.setting.few d.books.setting.top in
       omega (arith, add-mul d.books.coordinator.signals 1 s, mul-le-mul_right s less, filled, d.paid i few, top)
 
@@ -97,12 +109,12 @@ module _ (d : CheckedBooks) where
 abbrev pub Sound : Books → Type 0
 Sound b = record {
   tall : length b.table ≡ 64;
-  from : 1 ≤ b.coordinator.step;
-  to : b.coordinator.step ≤ b.setting.steps;
-  few : b.coordinator.signals ≤ quota b.setting b.coordinator.step;
-  going : b.coordinator.closed ≡ false → b.coordinator.signals < quota b.setting b.coordinator.step;
-  over : b.coordinator.closed ≡ true → b.coordinator.signals ≡ quota b.setting b.coordinator.step;
-  last : b.coordinator.closed ≡ true → b.coordinator.step ≡ b.setting.steps;
+  from : 1 ≤ step_in b.coordinator.phase;
+  to : step_in b.coordinator.phase ≤ b.setting.steps;
+  few : b.coordinator.signals ≤ quota b.setting (step_in b.coordinator.phase);
+  going : is_closed b.coordinator.phase ≡ false → b.coordinator.signals < quota b.setting (step_in b.coordinator.phase);
+  over : is_closed b.coordinator.phase ≡ true → b.coordinator.signals ≡ quota b.setting (step_in b.coordinator.phase);
+  last : is_closed b.coordinator.phase ≡ true → step_in b.coordinator.phase ≡ b.setting.steps;
   begun : (i : ℕ) → i < 64 → 1 ≤ (office b i).step;
   within : (i : ℕ) → i < 64 → (office b i).step ≤ b.setting.steps;
   left : (i : ℕ) → i < 64 → (office b i).remainder < slack b.setting (office b i).step;
@@ -125,26 +137,26 @@ sound b tall h table = record {
 }
 
 module _ (d : CheckedBooks) (i : ℕ) (few : i < 64) where
-  pub sound_signal : (d.books.coordinator.signals + 1 ≡ quota d.books.setting d.books.coordinator.step → ⊥) → d.books.coordinator.closed ≡ false → Sound (in_coordinator d.books i (record { step = d.books.coordinator.step; signals = d.books.coordinator.signals + 1; closed = d.books.coordinator.closed }))
+  pub sound_signal : (d.books.coordinator.signals + 1 ≡ quota d.books.setting (step_in d.books.coordinator.phase) → ⊥) → is_closed d.books.coordinator.phase ≡ false → Sound (in_coordinator d.books i (record { phase = d.books.coordinator.phase; signals = d.books.coordinator.signals + 1 }))
   sound_signal not_full going =
-      let less : d.books.coordinator.signals < quota d.books.setting d.books.coordinator.step = d.going going in
+      let less : d.books.coordinator.signals < quota d.books.setting (step_in d.books.coordinator.phase) = d.going going in
       sound _ (length-set d.books.table i _ ∙ d.tall)
       (record { from = d.from; to = d.to; few = omega arith; going = λ _. omega arith; over = λ e. absurd (false≢true (sym going ∙ e)); last = λ e. absurd (false≢true (sym going ∙ e)) })
-      (in_coordinator_law d i few _ (gained_same d d.books.coordinator.closed))
+      (in_coordinator_law d i few _ (gained_same d d.books.coordinator.phase refl))
 
-  pub sound_next : d.books.coordinator.signals + 1 ≡ quota d.books.setting d.books.coordinator.step → d.books.coordinator.step < d.books.setting.steps → Sound (in_coordinator d.books i (record { step = d.books.coordinator.step + 1; signals = 0; closed = false }))
+  pub sound_next : d.books.coordinator.signals + 1 ≡ quota d.books.setting (step_in d.books.coordinator.phase) → step_in d.books.coordinator.phase < d.books.setting.steps → Sound (in_coordinator d.books i (record { phase = Open (step_in d.books.coordinator.phase + 1); signals = 0 }))
   sound_next full less =
-      let some : 0 < quota d.books.setting (d.books.coordinator.step + 1) =
-      mul-pos d.books.setting.some (let low = d.books.setting.low (d.books.coordinator.step + 1) (omega arith) (omega arith) in omega (arith, low)) in
+      let some : 0 < quota d.books.setting (step_in d.books.coordinator.phase + 1) =
+      mul-pos d.books.setting.some (let low = d.books.setting.low (step_in d.books.coordinator.phase + 1) (omega arith) (omega arith) in omega (arith, low)) in
       sound _ (length-set d.books.table i _ ∙ d.tall)
       (record { from = omega arith; to = omega arith; few = omega arith; going = λ _. some; over = λ e. absurd (false≢true e); last = λ e. absurd (false≢true e) })
       (in_coordinator_law d i few _ (gained_next d full))
 
-  pub sound_close : d.books.coordinator.signals + 1 ≡ quota d.books.setting d.books.coordinator.step → d.books.setting.steps ≤ d.books.coordinator.step → Sound (in_coordinator d.books i (record { step = d.books.coordinator.step; signals = d.books.coordinator.signals + 1; closed = true }))
+  pub sound_close : d.books.coordinator.signals + 1 ≡ quota d.books.setting (step_in d.books.coordinator.phase) → d.books.setting.steps ≤ step_in d.books.coordinator.phase → Sound (in_coordinator d.books i (record { phase = Closed (step_in d.books.coordinator.phase); signals = d.books.coordinator.signals + 1 }))
   sound_close full more =
       sound _ (length-set d.books.table i _ ∙ d.tall)
       (record { from = d.from; to = d.to; few = omega arith; going = λ e. absurd (true≢false e); over = λ _. full; last = λ _. omega (arith, d.to) })
-      (in_coordinator_law d i few _ (gained_same d true))
+      (in_coordinator_law d i few _ (gained_same d (Closed (step_in d.books.coordinator.phase)) refl))
 
   -- office i has a record that is lawful
   pub sound_office : (o : OfficeRecord) → Record-law d.books.setting d.books.coordinator o → Sound (in_office d.books i o)

@@ -6,9 +6,11 @@ use Rattle.post.specs.Lanes.{Lane, lane, no_lane, send, joined}
 use Rattle.window.specs.Sequences.{fine}
 use Rattle.window.specs.declared.setting_table.SettingTable.{SettingTable}
 use Rattle.window.specs.declared.books.Coordinator.{Coordinator}
+use Rattle.window.specs.declared.books.Phase.TheVariants.{Open}
 use Rattle.window.specs.declared.books.OfficeRecord.{OfficeRecord}
-use Rattle.window.specs.Parts.{Heard, heard, heard_of, message, Followed, followed, followed_of, moved, signalled, office, no_office, slack, quota, in_coordinator, in_office}
+use Rattle.window.specs.Parts.{step_in, is_closed, Heard, heard, heard_of, message, Followed, followed, followed_of, moved, signalled, office, no_office, slack, quota, in_coordinator, in_office}
 use Rattle.window.specs.Turns.{State, at, with_lanes, signal, with_each, drain, replies, hear, answers, follow, coordinator_part, office_part}
+use Rattle.window.proofs.Sound.{open_at}
 use Rattle.window.proofs.After.{moved_record, whole, sumq}
 use Rattle.window.proofs.Drains.{drain_back}
 use Rattle.window.proofs.Calm.{then_fine, each_from, drain_one, send_fine, message_start, message_signal}
@@ -116,27 +118,28 @@ module _ (k j : ℕ) (t : State) (small : j < 32) (in-steps : j ≤ t.books.sett
 -- the coordinator reads c signals of office m, and the step goes on
 record Credits (c m : ℕ) (s v : State) : Type 0 where
   setting : v.books.setting ≡ s.books.setting
-  coordinator : v.books.coordinator ≡ record { step = s.books.coordinator.step; signals = s.books.coordinator.signals + c; closed = false }
+  coordinator : v.books.coordinator ≡ record { phase = Open (step_in s.books.coordinator.phase); signals = s.books.coordinator.signals + c }
   tall : length v.books.table ≡ length s.books.table
-  here : office v.books m ≡ record { step = (office s.books m).step; credit = (office s.books m).credit + c * slack s.books.setting s.books.coordinator.step; remainder = (office s.books m).remainder }
+  here : office v.books m ≡ record { step = (office s.books m).step; credit = (office s.books m).credit + c * slack s.books.setting (step_in s.books.coordinator.phase); remainder = (office s.books m).remainder }
   others : (n : ℕ) → n ≢ m → office v.books n ≡ office s.books n
   long : length v.lanes ≡ length s.lanes
   lane_here : lane v.lanes (2 * m) ≡ record { waiting = []; sent = (lane s.lanes (2 * m)).sent }
   lanes : (x : ℕ) → x ≢ 2 * m → lane v.lanes x ≡ lane s.lanes x
 
-credit_run : (c m : ℕ) (s : State) → s.books.coordinator.closed ≡ false → s.books.coordinator.step < 32 → 2 * m < length s.lanes → m < length s.books.table → (lane s.lanes (2 * m)).waiting ≡ replicate c (32 + s.books.coordinator.step)
-    → s.books.coordinator.signals + c < quota s.books.setting s.books.coordinator.step → (v : State) × (with_each (2 * m) (hear m) (replicate c (32 + s.books.coordinator.step)) s ≡ fine v) × Credits c m s v
+credit_run : (c m : ℕ) (s : State) → is_closed s.books.coordinator.phase ≡ false → step_in s.books.coordinator.phase < 32 → 2 * m < length s.lanes → m < length s.books.table → (lane s.lanes (2 * m)).waiting ≡ replicate c (32 + step_in s.books.coordinator.phase)
+    → s.books.coordinator.signals + c < quota s.books.setting (step_in s.books.coordinator.phase) → (v : State) × (with_each (2 * m) (hear m) (replicate c (32 + step_in s.books.coordinator.phase)) s ≡ fine v) × Credits c m s v
 unfolding with_each hear signalled
 credit_run zero m s going small in' few has less =
     let h = s.books.coordinator in
+    let j = step_in h.phase in
     let o = office s.books m in
     let e : h.signals ≡ h.signals + 0 = omega arith in
-    let z : o.credit ≡ o.credit + 0 * slack s.books.setting h.step = omega arith in (
+    let z : o.credit ≡ o.credit + 0 * slack s.books.setting j = omega arith in (
       s,
       refl,
       record {
         setting = refl;
-        coordinator = ap (λ n. record { step = h.step; signals = n; closed = h.closed }) e ∙ ap (λ c. record { step = h.step; signals = h.signals + 0; closed = c }) going;
+        coordinator = ap (λ n. record { phase = h.phase; signals = n }) e ∙ ap (λ p. record { phase = p; signals = h.signals + 0 }) (open_at _ going);
         tall = refl;
         here = ap (λ n. record { step = o.step; credit = n; remainder = o.remainder }) z;
         others = λ n ne. refl;
@@ -148,16 +151,17 @@ credit_run zero m s going small in' few has less =
 credit_run (suc c) m s going small in' few has less =
     let b = s.books in
     let h = b.coordinator in
+    let j = step_in h.phase in
     let o = office b m in
-    let sl = slack b.setting h.step in
-    let l : Lane = record { waiting = replicate c (32 + h.step); sent = (lane s.lanes (2 * m)).sent } in
+    let sl = slack b.setting j in
+    let l : Lane = record { waiting = replicate c (32 + j); sent = (lane s.lanes (2 * m)).sent } in
     let ls₁ = set s.lanes (2 * m) l in
-    let b₁ = in_coordinator b m (record { step = h.step; signals = h.signals + 1; closed = false }) in
+    let b₁ = in_coordinator b m (record { phase = Open j; signals = h.signals + 1 }) in
     let s₁ = at b₁ ls₁ in
-    let not_full : eqb (h.signals + 1) (quota b.setting h.step) ≡ false = ne_eqb _ _ (λ e. absurd (omega arith)) in
-    let heard-is : heard m (message (32 + h.step)) b ≡ heard_of b₁ None =
-    ap (λ r. heard m r b) (message_signal h.step small) ∙ cond-false _ _ _ going ∙ cond-true _ _ _ (eq-eqb h.step h.step refl) ∙ cond-false _ _ _ not_full in
-    let one : hear m (32 + h.step) (at b ls₁) ≡ fine s₁ = ap (λ (r : Heard). replies r.reply r.books ls₁) heard-is in
+    let not_full : eqb (h.signals + 1) (quota b.setting j) ≡ false = ne_eqb _ _ (λ e. absurd (omega arith)) in
+    let heard-is : heard m (message (32 + j)) b ≡ heard_of b₁ None =
+    ap (λ r. heard m r b) (message_signal j small) ∙ cond-false _ _ _ going ∙ cond-true _ _ _ (eq-eqb j j refl) ∙ cond-false _ _ _ not_full in
+    let one : hear m (32 + j) (at b ls₁) ≡ fine s₁ = ap (λ (r : Heard). replies r.reply r.books ls₁) heard-is in
     let lane₁ : lane ls₁ (2 * m) ≡ l = get_or-set_same s.lanes (2 * m) l no_lane in' in
     let rest = credit_run c m s₁ refl small (omega (arith, length-set s.lanes (2 * m) l)) (omega (arith, length-set b.table m (record { step = o.step; credit = o.credit + sl; remainder = o.remainder }))) (ap (λ (l : Lane). l.waiting) lane₁) (omega arith) in
     let v = rest.0 in
@@ -169,7 +173,7 @@ credit_run (suc c) m s going small in' few has less =
       then_fine _ one ∙ rest.1,
       record {
         setting = r.setting;
-        coordinator = r.coordinator ∙ ap (λ n. record { step = h.step; signals = n; closed = false }) n-is;
+        coordinator = r.coordinator ∙ ap (λ n. record { phase = Open j; signals = n }) n-is;
         tall = r.tall ∙ length-set b.table m _;
         here = r.here ∙ ap (λ (p : OfficeRecord). record { step = p.step; credit = p.credit + c * sl; remainder = p.remainder }) o₁ ∙ ap (λ n. record { step = o.step; credit = n; remainder = o.remainder }) c-is;
         others = λ n ne. r.others n ne ∙ get_or-set_other b.table m n _ no_office ne;
@@ -208,42 +212,42 @@ sumq_less q d i (suc m) less none le =
 
 pub record Crediting (q : ℕ → ℕ) (m : ℕ) (u v : State) : Type 0 where
   pub setting : v.books.setting ≡ u.books.setting
-  pub coordinator : v.books.coordinator ≡ record { step = u.books.coordinator.step; signals = sumq q m; closed = false }
+  pub coordinator : v.books.coordinator ≡ record { phase = Open (step_in u.books.coordinator.phase); signals = sumq q m }
   pub tall : length v.books.table ≡ length u.books.table
-  pub records : (n : ℕ) → n < m → office v.books n ≡ record { step = (office u.books n).step; credit = (office u.books n).credit + q n * slack u.books.setting u.books.coordinator.step; remainder = (office u.books n).remainder }
+  pub records : (n : ℕ) → n < m → office v.books n ≡ record { step = (office u.books n).step; credit = (office u.books n).credit + q n * slack u.books.setting (step_in u.books.coordinator.phase); remainder = (office u.books n).remainder }
   pub records_later : (n : ℕ) → m ≤ n → office v.books n ≡ office u.books n
   pub long : length v.lanes ≡ length u.lanes
   pub up : (n : ℕ) → n < m → lane v.lanes (2 * n) ≡ record { waiting = []; sent = (lane u.lanes (2 * n)).sent }
   pub up_later : (n : ℕ) → m ≤ n → lane v.lanes (2 * n) ≡ lane u.lanes (2 * n)
   pub down : (n : ℕ) → lane v.lanes (2 * n + 1) ≡ lane u.lanes (2 * n + 1)
 
-module _ (k : ℕ) (q : ℕ → ℕ) (u : State) (going : u.books.coordinator.closed ≡ false) (none : u.books.coordinator.signals ≡ 0) (small : u.books.coordinator.step < 32) (few : k ≤ length u.books.table) (long : length u.lanes ≡ 2 * k)
-    (has : (n : ℕ) → n < k → (lane u.lanes (2 * n)).waiting ≡ replicate (q n) (32 + u.books.coordinator.step))
-    (below : sumq q k < quota u.books.setting u.books.coordinator.step) where
+module _ (k : ℕ) (q : ℕ → ℕ) (u : State) (going : is_closed u.books.coordinator.phase ≡ false) (none : u.books.coordinator.signals ≡ 0) (small : step_in u.books.coordinator.phase < 32) (few : k ≤ length u.books.table) (long : length u.lanes ≡ 2 * k)
+    (has : (n : ℕ) → n < k → (lane u.lanes (2 * n)).waiting ≡ replicate (q n) (32 + step_in u.books.coordinator.phase))
+    (below : sumq q k < quota u.books.setting (step_in u.books.coordinator.phase)) where
   credit : (m : ℕ) (s : State) → m < k → Crediting q m u s → (v : State) × (drain (2 * m) (hear m) s ≡ fine v) × Crediting q (m + 1) u v
   credit m s to inv =
-      let step_is : s.books.coordinator.step ≡ u.books.coordinator.step = ap (λ (h : Coordinator). h.step) inv.coordinator in
+      let step_is : step_in s.books.coordinator.phase ≡ step_in u.books.coordinator.phase = ap (λ (h : Coordinator). step_in h.phase) inv.coordinator in
       let signals-is : s.books.coordinator.signals ≡ sumq q m = ap (λ (h : Coordinator). h.signals) inv.coordinator in
       let here = inv.up_later m (omega arith) in
       let same = inv.records_later m (omega arith) in
-      let waits : (lane s.lanes (2 * m)).waiting ≡ replicate (q m) (32 + s.books.coordinator.step) = ap (λ (l : Lane). l.waiting) here ∙ has m to ∙ ap (λ n. replicate (q m) (32 + n)) (sym step_is) in
-      let quota_is : quota s.books.setting s.books.coordinator.step ≡ quota u.books.setting u.books.coordinator.step = ap (λ t. quota t s.books.coordinator.step) inv.setting ∙ ap (quota u.books.setting) step_is in
+      let waits : (lane s.lanes (2 * m)).waiting ≡ replicate (q m) (32 + step_in s.books.coordinator.phase) = ap (λ (l : Lane). l.waiting) here ∙ has m to ∙ ap (λ n. replicate (q m) (32 + n)) (sym step_is) in
+      let quota_is : quota s.books.setting (step_in s.books.coordinator.phase) ≡ quota u.books.setting (step_in u.books.coordinator.phase) = ap (λ t. quota t (step_in s.books.coordinator.phase)) inv.setting ∙ ap (quota u.books.setting) step_is in
       let in' : 2 * m < length s.lanes = omega (arith, inv.long) in
-      let run = credit_run (q m) m s (ap (λ (h : Coordinator). h.closed) inv.coordinator) (omega arith) in' (omega (arith, inv.tall)) waits (omega (arith, sumq_more q m, sumq_mono q (m + 1) k (omega arith))) in
+      let run = credit_run (q m) m s (ap (λ (h : Coordinator). is_closed h.phase) inv.coordinator) (omega arith) in' (omega (arith, inv.tall)) waits (omega (arith, sumq_more q m, sumq_mono q (m + 1) k (omega arith))) in
       let v = run.0 in
       let r = run.2 in
-      let slack_is : slack s.books.setting s.books.coordinator.step ≡ slack u.books.setting u.books.coordinator.step = ap (λ t. slack t s.books.coordinator.step) inv.setting ∙ ap (slack u.books.setting) step_is in
+      let slack_is : slack s.books.setting (step_in s.books.coordinator.phase) ≡ slack u.books.setting (step_in u.books.coordinator.phase) = ap (λ t. slack t (step_in s.books.coordinator.phase)) inv.setting ∙ ap (slack u.books.setting) step_is in
       let n-is : s.books.coordinator.signals + q m ≡ sumq q (m + 1) = omega (arith, sumq_more q m) in (
         v,
-        sym (drain_back (2 * m) (hear m) s (replicate (q m) (32 + s.books.coordinator.step)) in' (sym waits)) ∙ run.1,
+        sym (drain_back (2 * m) (hear m) s (replicate (q m) (32 + step_in s.books.coordinator.phase)) in' (sym waits)) ∙ run.1,
         record {
           setting = r.setting ∙ inv.setting;
-          coordinator = r.coordinator ∙ ap (λ n. record { step = n; signals = s.books.coordinator.signals + q m; closed = false }) step_is ∙ ap (λ n. record { step = u.books.coordinator.step; signals = n; closed = false }) n-is;
+          coordinator = r.coordinator ∙ ap (λ n. record { phase = Open n; signals = s.books.coordinator.signals + q m }) step_is ∙ ap (λ n. record { phase = Open (step_in u.books.coordinator.phase); signals = n }) n-is;
           tall = r.tall ∙ inv.tall;
           records = λ n less. ⊎_elim
               (λ (e : n ≡ m). ap (office v.books) e ∙ r.here ∙ ap (λ z. record { step = (office s.books m).step; credit = (office s.books m).credit + q m * z; remainder = (office s.books m).remainder }) slack_is
-              ∙ ap (λ (o : OfficeRecord). record { step = o.step; credit = o.credit + q m * slack u.books.setting u.books.coordinator.step; remainder = o.remainder }) same
-              ∙ ap (λ n. record { step = (office u.books n).step; credit = (office u.books n).credit + q n * slack u.books.setting u.books.coordinator.step; remainder = (office u.books n).remainder }) (sym e))
+              ∙ ap (λ (o : OfficeRecord). record { step = o.step; credit = o.credit + q m * slack u.books.setting (step_in u.books.coordinator.phase); remainder = o.remainder }) same
+              ∙ ap (λ n. record { step = (office u.books n).step; credit = (office u.books n).credit + q n * slack u.books.setting (step_in u.books.coordinator.phase); remainder = (office u.books n).remainder }) (sym e))
               (λ (ne : n ≡ m → ⊥). r.others n ne ∙ inv.records n (omega arith))
               (cases_eq n m);
           records_later = λ n from. r.others n (λ e. omega arith) ∙ inv.records_later n (omega arith);
@@ -264,7 +268,7 @@ module _ (k : ℕ) (q : ℕ → ℕ) (u : State) (going : u.books.coordinator.cl
       each_from (λ i. drain (2 * i) (hear i)) (λ m s. Crediting q m u s) k u credit
       (record {
         setting = refl;
-        coordinator = ap (λ n. record { step = h.step; signals = n; closed = h.closed }) none ∙ ap (λ c. record { step = h.step; signals = 0; closed = c }) going;
+        coordinator = ap (λ n. record { phase = h.phase; signals = n }) none ∙ ap (λ p. record { phase = p; signals = 0 }) (open_at _ going);
         tall = refl;
         records = λ n less. absurd (omega arith);
         records_later = λ n _. refl;

@@ -12,7 +12,7 @@ use Rattle.window.specs.declared.books.Books.{Books}
 use Rattle.window.specs.declared.books.OfficeRecord.{OfficeRecord}
 use Rattle.window.specs.declared.checked_books.CheckedBooks.{CheckedBooks}
 use Rattle.window.specs.Sequences.{fine, go_on, then}
-use Rattle.window.specs.Parts.{office, no_office, counted}
+use Rattle.window.specs.Parts.{step_in, is_closed, office, no_office, counted}
 use Rattle.window.specs.Turns.{State, at, with_lanes, turn, settle, signal_and_settle, Busy, Calm, Settled, calm, again, stops, Signals, refused, sent, accepted, Accepts, quiet, signalled_on, admitted}
 use Rattle.window.specs.Opening.{opened}
 use Rattle.window.proofs.After.{Accepted}
@@ -96,7 +96,7 @@ accepts_is d ls i even is none (quiet e) = sym (cond-false _ _ _ e) ∙ is
 accepts_is d ls i even is none (signalled_on e r) = until i (at (counted i d.books) ls) even.empty.long (sym (cond-true _ _ _ e) ∙ is) none r
 
 -- what came of a taken lot, of a window that a run led to
-pub accepts_next : (d : CheckedBooks) (ls : List Lane) (l : Setting) (h : List ℕ) (used : Bool) (n : ℕ) → Held l h used (at d.books ls) → (eqb n 0 || ltb d.books.setting.offices n) ≡ false → d.books.coordinator.closed ≡ false
+pub accepts_next : (d : CheckedBooks) (ls : List Lane) (l : Setting) (h : List ℕ) (used : Bool) (n : ℕ) → Held l h used (at d.books ls) → (eqb n 0 || ltb d.books.setting.offices n) ≡ false → is_closed d.books.coordinator.phase ≡ false
     → (v : State) (r : Result (Unit {0}) Fault) → Accepts (n - 1) (at d.books ls) (out v r) → (Next l h n used v r) × (r ≡ Ok tt)
 accepts_next d ls l h used n re good-n going v r acc =
     let parts = or_parts (eqb n 0) (ltb d.books.setting.offices n) good-n in
@@ -150,7 +150,7 @@ admitted_so false false true n i f g h e = let z : ◌≡◌ {A = ℕ} 0 1 = cc 
 pub admitted_next : (d : CheckedBooks) (ls : List Lane) (l : Setting) (h : List ℕ) (used : Bool) (n i : ℕ) → Held l h used (at d.books ls) → Ok i ≡ admitted used n d.books
     → (v : State) (r : Answer) → Accepts i (at d.books ls) (out v r) → (Next l h n used v r) × (r ≡ Ok tt)
 admitted_next d ls l h used n i re is v r acc =
-    let z = admitted_so used (eqb n 0 || ltb d.books.setting.offices n) d.books.coordinator.closed n i _ _ _ is in
+    let z = admitted_so used (eqb n 0 || ltb d.books.setting.offices n) (is_closed d.books.coordinator.phase) n i _ _ _ is in
     accepts_next d ls l h used n re z.1 z.2 v r (subst (λ i. Accepts i (at d.books ls) (out v r)) z.3 acc)
 
 refused_so : (l : Setting) (h : List ℕ) (used : Bool) (s : State) (n : ℕ) (f f₅ f₁ f₂ : Fault) (bad shut : Bool) → used ≡ false → Err f ≡ cond used (Err f₅) (cond bad (Err f₁) (cond shut (Err f₂) (Ok (n - 1))))
@@ -161,7 +161,7 @@ refused_so l h used s n f f₅ f₁ f₂ false false fresh e p q = let z : Err f
 
 pub refused_next : (d : CheckedBooks) (ls : List Lane) (l : Setting) (h : List ℕ) (used : Bool) (n : ℕ) (f : Fault) → Held l h used (at d.books ls) → Err f ≡ admitted used n d.books → Next l h n used (at d.books ls) (Err f)
 refused_next d ls l h used n f re is =
-    refused_so l h used (at d.books ls) n f _ _ _ (eqb n 0 || ltb d.books.setting.offices n) d.books.coordinator.closed re.fresh is (unknown_next l h used (at d.books ls) re n) (shut_next l h used (at d.books ls) re n)
+    refused_so l h used (at d.books ls) n f _ _ _ (eqb n 0 || ltb d.books.setting.offices n) (is_closed d.books.coordinator.phase) re.fresh is (unknown_next l h used (at d.books ls) re n) (shut_next l h used (at d.books ls) re n)
 
 -- a window opened on an unused post
 pub opened_held : (l : Setting) (t : SettingTable) (ls : List Lane) (b : Books) (used : Bool) → SameTerms l t → b ≡ opened t → used ≡ false → Unused ls → Even (at b ls) → Held l [] used (at b ls)
@@ -170,9 +170,9 @@ opened_held l t ls b used same is fresh unused even = record {
   setting = subst (λ b. SameTerms l b.setting) (sym is) same;
   even = even;
   shows = record {
-    step = ap (λ (b : Books). b.coordinator.step) is;
+    step = ap (λ (b : Books). step_in b.coordinator.phase) is;
     signals = ap (λ (b : Books). b.coordinator.signals) is;
-    closed = ap (λ (b : Books). b.coordinator.closed) is;
+    closed = ap (λ (b : Books). is_closed b.coordinator.phase) is;
     credits = λ n less. ap (λ b. (office b n).credit) is ∙ ap (λ (o : OfficeRecord). o.credit) (get_or-replicate 64 n (record { step = 1; credit = 0; remainder = 0 }) no_office (few n less)) ∙ ap (λ (p : Account). p.credit) (sym (get_or-replicate l.offices n (account 0 no_lane) no_account less));
     remainders = λ n less. ap (λ b. (office b n).remainder) is ∙ ap (λ (o : OfficeRecord). o.remainder) (get_or-replicate 64 n (record { step = 1; credit = 0; remainder = 0 }) no_office (few n less)) ∙ ap (λ (p : Office). p.remainder) (sym (get_or-replicate l.offices n (rules_office 0 1 no_lane) no_rules_office less));
     ups = λ n less. unused (2 * n) (in_lanes n less (2 * n) (omega arith)) ∙ ap (λ (p : Account). p.up.sent) (sym (get_or-replicate l.offices n (account 0 no_lane) no_account less));

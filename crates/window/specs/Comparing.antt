@@ -12,7 +12,5 @@ pub record SameFigures (o o' : OfficeRecord) : Type 0 where
 -- The figures that are not by office, and the number of offices.
 pub record SameHeads (s s' : State) : Type 0 where
   pub offices : s.books.setting.offices ≡ s'.books.setting.offices
-  pub step : s.books.coordinator.step ≡ s'.books.coordinator.step
-  pub signals : s.books.coordinator.signals ≡ s'.books.coordinator.signals
-  pub closed : s.books.coordinator.closed ≡ s'.books.coordinator.closed
+  pub coordinator : s.books.coordinator ≡ s'.books.coordinator
   pub messages : all_sent s.lanes ≡ all_sent s'.lanes

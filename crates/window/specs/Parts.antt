@@ -19,9 +19,14 @@ byte_of (Signal j) = 32 + j
 byte_of (Start j) = 64 + j
 byte_of (Close j) = 96 + j
 
--- The coordinator's step, open or closed.
-abbrev pub phase : Coordinator → Phase
-phase c = cond c.closed (Closed c.step) (Open c.step)
+-- The coordinator's step, and whether the window closed at it.
+abbrev pub step_in : Phase → ℕ
+step_in (Open j) = j
+step_in (Closed j) = j
+
+abbrev pub is_closed : Phase → Bool
+is_closed (Open j) = false
+is_closed (Closed j) = true
 
 abbrev pub no_office : OfficeRecord
 no_office = record { step = 0; credit = 0; remainder = 0 }
@@ -39,7 +44,7 @@ quota t j = t.offices * (slack t (j - 1) / slack t j - 1)
 
 -- A credit is within what the steps so far and the signals let it be.
 abbrev pub Paid : SettingTable → Coordinator → OfficeRecord → Type 0
-Paid t h o = o.credit + t.offices * slack t (h.step - 1) ≤ t.offices * slack t 0 + h.signals * slack t h.step
+Paid t h o = o.credit + t.offices * slack t (step_in h.phase - 1) ≤ t.offices * slack t 0 + h.signals * slack t (step_in h.phase)
 
 -- The books once the coordinator has heard a message, and what it tells all offices, if anything.
 pub record Heard : Type 0 where
@@ -51,7 +56,7 @@ heard_of b r = record { books = b; reply = r }
 
 -- The table with one slack more in the credit of office i.
 abbrev pub credited : Books → ℕ → List OfficeRecord
-credited b i = slice_set b.table i (record { step = (office b i).step; credit = (office b i).credit + slack b.setting b.coordinator.step; remainder = (office b i).remainder })
+credited b i = slice_set b.table i (record { step = (office b i).step; credit = (office b i).credit + slack b.setting (step_in b.coordinator.phase); remainder = (office b i).remainder })
 
 abbrev pub in_coordinator : Books → ℕ → Coordinator → Books
 in_coordinator b i h = record { setting = b.setting; coordinator = h; table = credited b i }
@@ -59,15 +64,15 @@ in_coordinator b i h = record { setting = b.setting; coordinator = h; table = cr
 -- A signal of the coordinator's step from office i: counted and credited, it finishes the step or not.
 unfoldable pub signalled : ℕ → Books → Heard
 signalled i b =
-    cond (b.coordinator.signals + 1 == quota b.setting b.coordinator.step)
-    (cond (nat_lt b.coordinator.step b.setting.steps)
-    (heard_of (in_coordinator b i (record { step = b.coordinator.step + 1; signals = 0; closed = false })) (Some (Start (b.coordinator.step + 1))))
-    (heard_of (in_coordinator b i (record { step = b.coordinator.step; signals = b.coordinator.signals + 1; closed = true })) (Some (Close b.coordinator.step))))
-    (heard_of (in_coordinator b i (record { step = b.coordinator.step; signals = b.coordinator.signals + 1; closed = false })) None)
+    cond (b.coordinator.signals + 1 == quota b.setting (step_in b.coordinator.phase))
+    (cond (nat_lt (step_in b.coordinator.phase) b.setting.steps)
+    (heard_of (in_coordinator b i (record { phase = Open (step_in b.coordinator.phase + 1); signals = 0 })) (Some (Start (step_in b.coordinator.phase + 1))))
+    (heard_of (in_coordinator b i (record { phase = Closed (step_in b.coordinator.phase); signals = b.coordinator.signals + 1 })) (Some (Close (step_in b.coordinator.phase)))))
+    (heard_of (in_coordinator b i (record { phase = Open (step_in b.coordinator.phase); signals = b.coordinator.signals + 1 })) None)
 
 -- Anything but a signal of the step that is open is passed over.
 abbrev pub heard : ℕ → Option Message → Books → Heard
-heard i (Some (Signal j)) b = cond b.coordinator.closed (heard_of b None) (cond (j == b.coordinator.step) (signalled i b) (heard_of b None))
+heard i (Some (Signal j)) b = cond (is_closed b.coordinator.phase) (heard_of b None) (cond (j == step_in b.coordinator.phase) (signalled i b) (heard_of b None))
 heard i (Some (Start j)) b = heard_of b None
 heard i (Some (Close j)) b = heard_of b None
 heard i None b = heard_of b None

@@ -10,7 +10,7 @@ use Rattle.window.specs.Sequences.{fine, then, each}
 use Rattle.window.specs.declared.books.Books.{Books}
 use Rattle.window.specs.declared.message.Message.{Message}
 use Rattle.window.specs.declared.message.Message.TheVariants.{Signal}
-use Rattle.window.specs.Parts.{heard, message, byte_of, Followed, followed, office, due, counted}
+use Rattle.window.specs.Parts.{is_closed, heard, message, byte_of, Followed, followed, office, due, counted}
 
 -- all that a window holds
 pub record State : Type 0 where
@@ -117,5 +117,5 @@ abbrev pub admitted : (used : Bool) → ℕ → Books → Result ℕ Fault
 admitted used n b =
     cond used (Err (fault Window PostUsed 0))
     (cond (n == 0 || nat_lt b.setting.offices n) (Err (fault Window NoSuchOfficeOrLane n))
-    (cond b.coordinator.closed (Err (fault Window WindowClosed n))
+    (cond (is_closed b.coordinator.phase) (Err (fault Window WindowClosed n))
     (Ok (n - 1))))

@@ -14,7 +14,7 @@ use Rattle.window.specs.declared.setting_table.SettingTable.{SettingTable}
 use Rattle.window.specs.declared.books.Books.{Books}
 use Rattle.window.specs.declared.place.Place.{Place}
 use Rattle.window.specs.declared.Window.{Window}
-use Rattle.window.specs.Parts.{office, slack}
+use Rattle.window.specs.Parts.{step_in, is_closed, office, slack}
 use Rattle.window.specs.Turns.{State, at}
 
 -- So many offices on a ladder; what a ladder would say past its last step does not count.
@@ -32,9 +32,9 @@ pub record SameSetting (l l' : Setting) : Type 0 where
 -- The books that a window's records and lanes show.
 abbrev pub shown : State → BooksShown
 shown s = record {
-  step = s.books.coordinator.step;
+  step = step_in s.books.coordinator.phase;
   signals = s.books.coordinator.signals;
-  is_open = not s.books.coordinator.closed;
+  is_open = not (is_closed s.books.coordinator.phase);
   messages = all_sent s.lanes;
   credits = map (λ o. o.credit) (take s.books.setting.offices s.books.table);
   remainders = map (λ o. o.remainder) (take s.books.setting.offices s.books.table);

@@ -1,12 +1,36 @@
 // What a window writes down: the coordinator's record and the table of the offices' records.
 use crate::setting_table::SettingTable;
 
-// Kept: a flag beside the step, since step and signals say the same whether the window is open or closed.
+// The step at which the coordinator is, with the window open or closed.
+#[derive(Clone, Copy, PartialEq, Eq)]
+pub enum Phase {
+    Open(u32),
+    Closed(u32),
+}
+
+impl Phase {
+    ghost use Rattle.std.specs.Prelude.{◌≡◌};
+    ghost use Rattle.window.specs.Parts.{step_in, is_closed};
+
+    pub fn step(self) -> u32
+        ensures { result ≡ step_in self }
+    {
+        match self {
+            Phase::Open(step) | Phase::Closed(step) => step,
+        }
+    }
+
+    pub fn is_closed(self) -> bool
+        ensures { result ≡ is_closed self }
+    {
+        matches!(self, Phase::Closed(_))
+    }
+}
+
 #[derive(Clone, Copy, PartialEq, Eq)]
 pub struct Coordinator {
-    pub step: u32,
+    pub phase: Phase,
     pub signals: u32,
-    pub closed: bool,
 }
 
 #[derive(Clone, Copy)]
@@ -23,11 +47,4 @@ pub struct Books {
     pub coordinator: Coordinator,
     // Kept: a fixed table, since a lot may not want memory.
     pub table: [OfficeRecord; 64],
-}
-
-// The step at which the coordinator is, with the window open or closed.
-#[derive(Clone, Copy)]
-pub enum Phase {
-    Open(u32),
-    Closed(u32),
 }

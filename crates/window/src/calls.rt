@@ -54,7 +54,7 @@ impl<P: Post> Window<P> {
             return Err(window_fault(Refusal::PostUsed, 0));
         }
         let place = self.place_of(office)?;
-        if self.checked.books.coordinator.closed {
+        if self.checked.books.coordinator.phase.is_closed() {
             return Err(window_fault(Refusal::WindowClosed, office));
         }
         Ok(place)
@@ -97,7 +97,7 @@ impl<P: Post> Window<P> {
     pub fn step(&self) -> u32
         ensures { result ≡ (books_of P.Post.lanes self.now).step }
     {
-        self.checked.books.coordinator.step
+        self.checked.books.coordinator.phase.step()
     }
 
     pub fn signals(&self) -> u32
@@ -109,7 +109,7 @@ impl<P: Post> Window<P> {
     pub fn is_closed(&self) -> bool
         ensures { not result ≡ (books_of P.Post.lanes self.now).is_open }
     {
-        self.checked.books.coordinator.closed
+        self.checked.books.coordinator.phase.is_closed()
     }
 
     // How many messages the post has carried.

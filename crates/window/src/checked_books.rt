@@ -1,6 +1,6 @@
 // The books with what always holds of them: how the coordinator and the offices change their records.
 ghost use Rattle.std.specs.Prelude.{◌≡◌, ℕ, ◌+◌, ◌-◌, ◌*◌, ◌/◌, ◌%◌, ◌^◌, ◌<◌, ◌≤◌, true, false, length, take, Some, None, IfSome, ◌==◌};
-ghost use Rattle.window.specs.Parts.{phase, heard, heard_of, byte_of, signalled, quota, slack, office, Paid, followed, followed_of, moved, due, counted};
+ghost use Rattle.window.specs.Parts.{step_in, is_closed, heard, heard_of, byte_of, signalled, quota, slack, office, Paid, followed, followed_of, moved, due, counted};
 
 use crate::books::{Books, Coordinator, OfficeRecord, Phase};
 use crate::message::Message;
@@ -10,12 +10,12 @@ use crate::place::Place;
 pub struct CheckedBooks {
     pub books: Books,
     ghost tall: { length books.table ≡ 64 },
-    ghost from: { 1 ≤ books.coordinator.step },
-    ghost to: { books.coordinator.step ≤ books.setting.steps },
-    ghost few: { books.coordinator.signals ≤ quota books.setting books.coordinator.step },
-    ghost going: { books.coordinator.closed ≡ false → books.coordinator.signals < quota books.setting books.coordinator.step },
-    ghost over: { books.coordinator.closed ≡ true → books.coordinator.signals ≡ quota books.setting books.coordinator.step },
-    ghost last: { books.coordinator.closed ≡ true → books.coordinator.step ≡ books.setting.steps },
+    ghost from: { 1 ≤ step_in books.coordinator.phase },
+    ghost to: { step_in books.coordinator.phase ≤ books.setting.steps },
+    ghost few: { books.coordinator.signals ≤ quota books.setting (step_in books.coordinator.phase) },
+    ghost going: { is_closed books.coordinator.phase ≡ false → books.coordinator.signals < quota books.setting (step_in books.coordinator.phase) },
+    ghost over: { is_closed books.coordinator.phase ≡ true → books.coordinator.signals ≡ quota books.setting (step_in books.coordinator.phase) },
+    ghost last: { is_closed books.coordinator.phase ≡ true → step_in books.coordinator.phase ≡ books.setting.steps },
     ghost begun: { (i : ℕ) → i < 64 → 1 ≤ (office books i).step },
     ghost within: { (i : ℕ) → i < 64 → (office books i).step ≤ books.setting.steps },
     ghost left: { (i : ℕ) → i < 64 → (office books i).remainder < slack books.setting (office books i).step },
@@ -23,18 +23,6 @@ pub struct CheckedBooks {
 }
 
 impl CheckedBooks {
-    // The coordinator's step, open or closed.
-    fn phase(&self) -> Phase
-        ensures { result ≡ phase self.now.books.coordinator }
-    {
-        let step = self.books.coordinator.step;
-        if self.books.coordinator.closed {
-            Phase::Closed(step)
-        } else {
-            Phase::Open(step)
-        }
-    }
-
     // The record of the office at the place.
     pub fn record(&self, place: Place) -> OfficeRecord
         ensures { result ≡ office self.now.books place.index }
@@ -51,43 +39,42 @@ impl CheckedBooks {
 
     // Whether one signal more reaches the quota of the coordinator's step.
     fn one_more_is_full(&self) -> bool
-        ensures { result ≡ (self.now.books.coordinator.signals + 1 == quota self.now.books.setting self.now.books.coordinator.step) }
+        ensures { result ≡ (self.now.books.coordinator.signals + 1 == quota self.now.books.setting (step_in self.now.books.coordinator.phase)) }
     {
-        let step = self.books.coordinator.step as usize;
+        let step = self.books.coordinator.phase.step() as usize;
         let divisor = self.books.setting.slacks[step - 1] / self.books.setting.slacks[step];
         self.books.coordinator.signals + 1 == self.books.setting.offices * (divisor - 1)
     }
 
     // A signal that does not finish the step.
     fn count_signal(&mut self, place: Place)
-        requires going { self.old.books.coordinator.closed ≡ false }
-        requires more { (self.old.books.coordinator.signals + 1 == quota self.old.books.setting self.old.books.coordinator.step) ≡ false }
+        requires going { is_closed self.old.books.coordinator.phase ≡ false }
+        requires more { (self.old.books.coordinator.signals + 1 == quota self.old.books.setting (step_in self.old.books.coordinator.phase)) ≡ false }
         ensures { heard_of self.new.books None ≡ signalled place.index self.old.books }
     {
-        let step = self.books.coordinator.step;
+        let step = self.books.coordinator.phase.step();
         self.books.table[place.index as usize].credit += self.books.setting.slacks[step as usize];
         self.books.coordinator.signals += 1;
     }
 
     // The signal that finishes the step: below the last step the next one starts, at the last the window closes. Gives the message that all offices are told.
     fn finish_step(&mut self, place: Place) -> Message
-        requires going { self.old.books.coordinator.closed ≡ false }
-        requires full { (self.old.books.coordinator.signals + 1 == quota self.old.books.setting self.old.books.coordinator.step) ≡ true }
+        requires going { is_closed self.old.books.coordinator.phase ≡ false }
+        requires full { (self.old.books.coordinator.signals + 1 == quota self.old.books.setting (step_in self.old.books.coordinator.phase)) ≡ true }
         ensures did { heard_of self.new.books (Some result) ≡ signalled place.index self.old.books }
         ensures fits { byte_of result < 2 ^ 8 }
     {
-        let step = self.books.coordinator.step;
+        let step = self.books.coordinator.phase.step();
         self.books.table[place.index as usize].credit += self.books.setting.slacks[step as usize];
         if step < self.books.setting.steps {
             self.books.coordinator = Coordinator {
-                step: step + 1,
+                phase: Phase::Open(step + 1),
                 signals: 0,
-                closed: false,
             };
             return Message::Start(step + 1);
         }
         self.books.coordinator.signals += 1;
-        self.books.coordinator.closed = true;
+        self.books.coordinator.phase = Phase::Closed(step);
         Message::Close(step)
     }
 
@@ -96,7 +83,8 @@ impl CheckedBooks {
         ensures did { heard_of self.new.books result ≡ heard place.index message self.old.books }
         ensures fits { IfSome result (λ m. byte_of m < 2 ^ 8) }
     {
-        match (self.phase(), message, self.one_more_is_full()) {
+        let phase = self.books.coordinator.phase;
+        match (phase, message, self.one_more_is_full()) {
             (Phase::Open(step), Some(Message::Signal(of)), false) if of == step => {
                 self.count_signal(place);
                 None

@@ -3,7 +3,7 @@ ghost use Rattle.std.specs.Prelude.{◌≡◌, ℕ, ◌+◌, ◌-◌, ◌*◌, �
 ghost use Rattle.window.specs.Parts.{slack as slack_of};
 ghost use Rattle.window.specs.Opening.{opened};
 
-use crate::books::{Books, Coordinator, OfficeRecord};
+use crate::books::{Books, Coordinator, OfficeRecord, Phase};
 use crate::checked_books::CheckedBooks;
 use crate::setting_table::SettingTable;
 use ladder::Ladder;
@@ -35,9 +35,8 @@ pub fn open_books(setting: SettingTable) -> CheckedBooks
         books: Books {
             setting,
             coordinator: Coordinator {
-                step: 1,
+                phase: Phase::Open(1),
                 signals: 0,
-                closed: false,
             },
             table: [record; 64],
         },

@@ -1,6 +1,7 @@
 use Rattle.std.proofs.Common.{◌≡◌, true, false, not, [], sym, refl, ap, ◌∙◌, subst, ⊎_elim, rules}
 use Rattle.std.proofs.lemmas.Bool.{cases_Bool}
 use Rattle.window.specs.declared.books.Books.{Books}
+use Rattle.window.specs.Parts.{is_closed}
 use Rattle.window.specs.Opening.{opened}
 use Rattle.playing.specs.declared.day.Played.{Played}
 use Rattle.playing.specs.Tallies.{no_tally}
@@ -19,7 +20,7 @@ returns g c =
         reached = c.open.ensures.reached none;
         accepted = refl;
         late = refl;
-        closing = ap (λ (b : Books). not b.coordinator.closed) c.open.ensures.books;
+        closing = ap (λ (b : Books). not (is_closed b.coordinator.phase)) c.open.ensures.books;
       }));
       used = λ some.
           let used : w.used ≡ true = ⊎_elim (λ (yes : w.used ≡ true). yes) (λ (no-use : w.used ≡ false). absurd (some (c.open.ensures.unused.0 (ap not no-use)))) (cases_Bool w.used) in

@@ -1,24 +1,43 @@
-use Rattle.std.proofs.Common.{sym, ◌∙◌, arith}
+use Rattle.std.proofs.Common.{◌≡◌, ◌+◌, ◌<◌, ◌≤◌, Some, sym, ap, ◌∙◌, subst, arith}
 use Rattle.std.proofs.lemmas.Bool.{cond-true, cond-false, eqb-true, lt-ltb, le-ltb}
-use Rattle.window.specs.Parts.{signalled}
-use Rattle.window.proofs.Sound.{credit_fits, sound_next, sound_close}
+use Rattle.window.specs.declared.books.Phase.TheVariants.{Open, Closed}
+use Rattle.window.specs.declared.message.Message.TheVariants.{Start, Close}
+use Rattle.window.specs.Parts.{step_in, heard_of, signalled, slack}
+use Rattle.window.proofs.Sound.{credited_at, credit_fits, Sound, sound_next, sound_close}
 use Rattle.window.proofs.checked_books.CheckedBooks.finish_step.Goals as goal
 
 pub overflow_add-self : goal.overflow_add-self
-overflow_add-self c = omega (arith, credit_fits c.args.self.now c.args.place.index c.args.place.within c.requires.going)
+overflow_add-self c =
+    omega (arith, credit_fits c.args.self.now c.args.place.index c.args.place.within c.requires.going, ap (slack c.args.self.now.books.setting) c.step-step.ensures)
 
 pub invariant_of-self : goal.invariant_of-self
 invariant_of-self c =
-    sound_next c.args.self.now c.args.place.index c.args.place.within (eqb-true _ _ c.requires.full) c.if-step-self.true
+    let b = c.args.self.now.books in
+    let i = c.args.place.index in
+    subst (λ j. Sound (credited_at b i j (record { phase = Open (j + 1); signals = 0 }))) (sym c.step-step.ensures)
+    (sound_next c.args.self.now i c.args.place.within (eqb-true _ _ c.requires.full) (omega (arith, c.step-step.ensures, c.if-step-self.true)))
 
 pub returns-then-step-self-clause-did : goal.returns-then-step-self-clause-did
 unfolding signalled
-returns-then-step-self-clause-did c = sym (cond-true _ _ _ c.requires.full ∙ cond-true _ _ _ (lt-ltb _ _ c.if-step-self.true))
+returns-then-step-self-clause-did c =
+    let b = c.args.self.now.books in
+    let i = c.args.place.index in
+    let less : step_in b.coordinator.phase < b.setting.steps = omega (arith, c.step-step.ensures, c.if-step-self.true) in
+    subst (λ j. heard_of (credited_at b i j (record { phase = Open (j + 1); signals = 0 })) (Some (Start (j + 1))) ≡ signalled i b) (sym c.step-step.ensures)
+    (sym (cond-true _ _ _ c.requires.full ∙ cond-true _ _ _ (lt-ltb _ _ less)))
 
 pub invariant_of-self-2 : goal.invariant_of-self-2
 invariant_of-self-2 c =
-    sound_close c.args.self.now c.args.place.index c.args.place.within (eqb-true _ _ c.requires.full) c.if-step-self.false
+    let b = c.args.self.now.books in
+    let i = c.args.place.index in
+    subst (λ j. Sound (credited_at b i j (record { phase = Closed j; signals = b.coordinator.signals + 1 }))) (sym c.step-step.ensures)
+    (sound_close c.args.self.now i c.args.place.within (eqb-true _ _ c.requires.full) (omega (arith, c.step-step.ensures, c.if-step-self.false)))
 
 pub returns-clause-did : goal.returns-clause-did
 unfolding signalled
-returns-clause-did c = sym (cond-true _ _ _ c.requires.full ∙ cond-false _ _ _ (le-ltb _ _ c.if-step-self.false))
+returns-clause-did c =
+    let b = c.args.self.now.books in
+    let i = c.args.place.index in
+    let more : b.setting.steps ≤ step_in b.coordinator.phase = omega (arith, c.step-step.ensures, c.if-step-self.false) in
+    subst (λ j. heard_of (credited_at b i j (record { phase = Closed j; signals = b.coordinator.signals + 1 })) (Some (Close j)) ≡ signalled i b) (sym c.step-step.ensures)
+    (sym (cond-true _ _ _ c.requires.full ∙ cond-false _ _ _ (le-ltb _ _ more)))
