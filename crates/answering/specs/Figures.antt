@@ -1,5 +1,5 @@
 -- The report that a played day gives, figure by figure: the words of the inner contracts. Assumes nothing.
-use Rattle.std.specs.Prelude.{◌≡◌, ℕ, ◌+◌, ◌<◌, List, length, Ok, Result, slice_index}
+use Rattle.std.specs.Prelude.{◌≡◌, ℕ, ◌-◌, ◌≤◌, List, length, Ok, Result, slice_index}
 use Rattle.fault.specs.declared.Fault.{Fault}
 use Rattle.post.specs.Lanes.{Lane}
 use Rattle.window.specs.Windows.{books_of}
@@ -22,4 +22,4 @@ model_of lanes p frames = record {
 -- Where each office answers with its number of a list, that list was found; `answers` says what an office may answer.
 abbrev pub Gathers : (answers : ℕ → Result ℕ Fault → Type 0) → (offices : ℕ) → (found : List ℕ) → Type 0
 Gathers answers offices found =
-    (xs : List ℕ) → length xs ≡ offices → ((place : ℕ) (r : Result ℕ Fault) → place < offices → answers (place + 1) r → r ≡ Ok (slice_index xs place)) → found ≡ xs
+    (xs : List ℕ) → length xs ≡ offices → ((office : ℕ) (r : Result ℕ Fault) → 1 ≤ office → office ≤ offices → answers office r → r ≡ Ok (slice_index xs (office - 1))) → found ≡ xs

@@ -20,8 +20,8 @@ fn gather<F: Fn(u32) -> Result<u32, Fault>>(
     ensures { IfOk result (λ v. Gathers (F.post figure) offices v.items) }
 {
     let mut list = Vec::new(heap);
-    for place in 0..offices {
-        if let Ok(number) = figure(place + 1) {
+    for office in 1..=offices {
+        if let Ok(number) = figure(office) {
             list.push(number)?;
         }
     }

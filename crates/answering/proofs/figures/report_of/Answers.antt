@@ -1,4 +1,4 @@
-use Rattle.std.proofs.Common.{◌≡◌, ◌+◌, ◌-◌, slice_index, vec_items, sym, ◌∙◌, arith, rules}
+use Rattle.std.proofs.Common.{◌≡◌, ◌-◌, slice_index, vec_items, sym, ◌∙◌, arith, rules}
 use Rattle.window.specs.Windows.{asked, books_of}
 use Rattle.answering.proofs.Gathered.{answered, column_long}
 use Rattle.answering.proofs.figures.report_of.Goals as goal
@@ -11,8 +11,8 @@ returns g c =
     let offices = c.office_count-offices.ensures in
     let credits : vec_items c.in_ok-credits.credits ≡ books.credits =
     c.in_ok-credits.ensures books.credits (column_long w.checked (λ o. o.credit) ∙ sym offices)
-    (λ place r less p. let said : r ≡ asked (place + 1) b (slice_index books.credits (place + 1 - 1)) = search rules in said ∙ answered b books.credits place (omega arith)) in
+    (λ office r some le p. let said : r ≡ asked office b (slice_index books.credits (office - 1)) = search rules in said ∙ answered b books.credits office some (omega arith)) in
     let remainders : vec_items c.in_ok-remainders.remainders ≡ books.remainders =
     c.in_ok-remainders.ensures books.remainders (column_long w.checked (λ o. o.remainder) ∙ sym offices)
-    (λ place r less p. let said : r ≡ asked (place + 1) b (slice_index books.remainders (place + 1 - 1)) = search rules in said ∙ answered b books.remainders place (omega arith)) in
+    (λ office r some le p. let said : r ≡ asked office b (slice_index books.remainders (office - 1)) = search rules in said ∙ answered b books.remainders office some (omega arith)) in
     cc
