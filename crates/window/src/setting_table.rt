@@ -3,9 +3,9 @@ ghost use Rattle.std.specs.Prelude.{◌≡◌, ℕ, ◌-◌, ◌*◌, ◌/◌, �
 
 #[derive(Clone, Copy)]
 pub struct SettingTable {
+    // Kept: a plain number of offices, since the definitions of the window name it as the rules do and `OfficeCount` would stand between.
     pub offices: u32,
     pub steps: u32,
-    // Kept: a plain number of offices, since the definitions of the window name it as the rules do and `OfficeCount` would stand between.
     // Kept: a fixed table, since opening a window may not want memory.
     pub slacks: [u32; 17],
     ghost some: { 1 ≤ offices },
