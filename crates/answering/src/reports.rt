@@ -1,5 +1,4 @@
 // The report of a day under its terms: the ladder and the post are made, and the lots are played.
-ghost use Rattle.std.specs.Prelude.{◌≡◌};
 ghost use Rattle.day.specs.Models.{day_model};
 ghost use Rattle.terms.specs.Models.{terms_model};
 ghost use Rattle.answering.specs.Answers.{Reported};

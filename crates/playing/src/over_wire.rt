@@ -1,6 +1,5 @@
 // A day of lots by the alternating bit over any wire, and the frames that it takes.
-ghost use Rattle.std.specs.Prelude.{◌≡◌, ℕ, ◌-◌, List};
-ghost use Rattle.wire.specs.Wires.{Outcome};
+ghost use Rattle.std.specs.Prelude.{◌≡◌};
 ghost use Rattle.bit_post.specs.Became.{Became};
 ghost use Rattle.bit_post.specs.Counted.{counts};
 ghost use Rattle.bit_post.specs.declared.BitPost.{BitPost as BitPostOf};

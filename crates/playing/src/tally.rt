@@ -1,5 +1,5 @@
 // What is counted of a day beside the books: accepted lots, late lots, and the lot that closed the window.
-ghost use Rattle.std.specs.Prelude.{◌≡◌, ◌+◌, ◌^◌, ◌<◌, ◌≤◌};
+ghost use Rattle.std.specs.Prelude.{◌≡◌, ◌^◌, ◌<◌};
 ghost use Rattle.playing.specs.Tallies.{counted, noted};
 
 use fault::{Fault, Refusal};

@@ -1,5 +1,5 @@
 // What can be asked of a window: opening, a lot, and the questions about its books.
-ghost use Rattle.std.specs.Prelude.{◌≡◌, ℕ, ◌-◌, ◌<◌, not, List, [], ◌∷◌, ◌++◌, Err, Decides, slice_index};
+ghost use Rattle.std.specs.Prelude.{◌≡◌, ℕ, ◌-◌, not, List, [], ◌∷◌, ◌++◌, Err, Decides, slice_index};
 ghost use Rattle.fault.specs.declared.Fault.{Fault as FaultOf};
 ghost use Rattle.fault.specs.declared.Layer.TheVariants.{Window as InWindow};
 ghost use Rattle.post.specs.Lanes.{Unused};

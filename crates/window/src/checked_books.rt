@@ -1,5 +1,5 @@
 // The books with what always holds of them: how the coordinator and the offices change their records.
-ghost use Rattle.std.specs.Prelude.{◌≡◌, ℕ, ◌+◌, ◌-◌, ◌*◌, ◌/◌, ◌%◌, ◌^◌, ◌<◌, ◌≤◌, true, false, length, take, Some, None, IfSome, ◌==◌};
+ghost use Rattle.std.specs.Prelude.{◌≡◌, ℕ, ◌+◌, ◌^◌, ◌<◌, ◌≤◌, true, false, length, take, Some, None, IfSome, ◌==◌};
 ghost use Rattle.window.specs.Parts.{step_in, is_closed, heard, heard_of, byte_of, signalled, quota, slack, office, Paid, followed, followed_of, moved, due, counted};
 
 use crate::books::{Books, Coordinator, OfficeRecord, Phase};

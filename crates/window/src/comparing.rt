@@ -1,5 +1,5 @@
 // Whether two windows have the same books, over whatever posts they count.
-ghost use Rattle.std.specs.Prelude.{◌≡◌, ℕ, ◌<◌, ◌≤◌, true, List, length, slice_index_or, Decides};
+ghost use Rattle.std.specs.Prelude.{◌≡◌, ℕ, ◌<◌, List, length, slice_index_or, Decides};
 ghost use Rattle.rules.specs.Laws.{SameLots, OrderDoesNotMatter};
 ghost use Rattle.rules.specs.Runs.{Answer, accepted_at};
 ghost use Rattle.window.specs.Comparing.{SameFigures, SameHeads};

@@ -1,5 +1,5 @@
 // How a window begins: the slacks read off a ladder, and empty books.
-ghost use Rattle.std.specs.Prelude.{◌≡◌, ℕ, ◌+◌, ◌-◌, ◌*◌, ◌^◌, ◌<◌, ◌≤◌, length, replicate};
+ghost use Rattle.std.specs.Prelude.{◌≡◌, ℕ, ◌≤◌};
 ghost use Rattle.window.specs.Parts.{slack as slack_of};
 ghost use Rattle.window.specs.Opening.{opened};
 

@@ -1,5 +1,5 @@
 // The number of offices and the slacks of the ladder, as a window keeps them.
-ghost use Rattle.std.specs.Prelude.{◌≡◌, ℕ, ◌-◌, ◌*◌, ◌/◌, ◌≤◌, length, slice_index};
+ghost use Rattle.std.specs.Prelude.{◌≡◌, ℕ, ◌-◌, ◌*◌, ◌/◌, ◌≤◌, slice_index};
 
 #[derive(Clone, Copy)]
 pub struct SettingTable {

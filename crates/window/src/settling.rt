@@ -1,5 +1,5 @@
 // What follows a signal: turns, until no lane holds anything.
-ghost use Rattle.std.specs.Prelude.{◌≡◌, ℕ, ◌+◌, ◌-◌, ◌*◌, ◌^◌, ◌<◌, ◌≤◌, true, false, List, [], length};
+ghost use Rattle.std.specs.Prelude.{◌≡◌, ◌<◌, true, false, [], length};
 ghost use Rattle.post.specs.Lanes.{lane as lane_of};
 ghost use Rattle.post.specs.Outs.{out};
 ghost use Rattle.window.specs.Turns.{Busy, Calm, Settled, Signals};

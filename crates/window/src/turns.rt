@@ -1,5 +1,5 @@
 // The turns of a window over any post: the coordinator takes the lanes up, then the offices take the lanes down.
-ghost use Rattle.std.specs.Prelude.{◌≡◌, ℕ, ◌+◌, ◌-◌, ◌*◌, ◌^◌, ◌<◌, ◌≤◌, List, length};
+ghost use Rattle.std.specs.Prelude.{◌≡◌};
 ghost use Rattle.post.specs.Outs.{out};
 ghost use Rattle.window.specs.Parts.{office};
 ghost use Rattle.window.specs.Turns.{with_lanes, tell as tell_lanes, drain, part, signal as signal_lanes, turn as turn_state};
