@@ -53,7 +53,8 @@ impl CheckedBooks {
         ensures { heard_of self.new.books None ≡ signalled place.index self.old.books }
     {
         let step = self.books.coordinator.phase.step();
-        self.books.table[place.index as usize].credit += self.books.setting.slacks[step as usize];
+        let office = &mut self.books.table[place.index as usize];
+        office.credit += self.books.setting.slacks[step as usize];
         self.books.coordinator.signals += 1;
     }
 
@@ -65,7 +66,8 @@ impl CheckedBooks {
         ensures fits { byte_of result < 2 ^ 8 }
     {
         let step = self.books.coordinator.phase.step();
-        self.books.table[place.index as usize].credit += self.books.setting.slacks[step as usize];
+        let office = &mut self.books.table[place.index as usize];
+        office.credit += self.books.setting.slacks[step as usize];
         if step < self.books.setting.steps {
             self.books.coordinator = Coordinator {
                 phase: Phase::Open(step + 1),

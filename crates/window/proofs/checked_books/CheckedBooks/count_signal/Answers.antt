@@ -4,8 +4,8 @@ use Rattle.window.specs.Parts.{heard_of, in_coordinator, signalled, slack}
 use Rattle.window.proofs.Sound.{open_at, credited_at, credit_fits, Sound, sound_signal}
 use Rattle.window.proofs.checked_books.CheckedBooks.count_signal.Goals as goal
 
-pub overflow_add-self : goal.overflow_add-self
-overflow_add-self c =
+pub overflow_add-office : goal.overflow_add-office
+overflow_add-office c =
     omega (arith, credit_fits c.args.self.now c.args.place.index c.args.place.within c.requires.going, ap (slack c.args.self.now.books.setting) c.step-step.ensures)
 
 pub invariant_of-self : goal.invariant_of-self
