@@ -4,7 +4,9 @@ use Rattle.std.specs.Borrow.{Bor}
 use Rattle.fault.specs.declared.Fault.{Fault}
 use Rattle.fault.specs.declared.failure.Failure.{Failure}
 use Rattle.fault.specs.declared.failure.Failure.TheVariants.{Faulty, NoMemory}
-use Rattle.reader.specs.Readers.{ReadsAt}
+use Rattle.reader.specs.declared.Reader.{Reader}
+use Rattle.reader.specs.Readings.{Reading}
+use Rattle.reader.specs.Readers.{Reads}
 
 -- r stands, by model, for the answer of s, or there was no memory
 abbrev pub Gives : {X Y : Type 0} → (X → Y) → Result Y Fault → Result X Failure → Type 0
@@ -17,10 +19,10 @@ abbrev pub told : Failure → Option Fault
 told (Faulty f) = Some f
 told NoMemory = None
 
--- the same of a reader that then stands at q: past what was read, or at the fault's place
-abbrev pub GivesAt : {X Y : Type 0} → (X → Y) → Result (Y × ℕ) Fault → Result X Failure → ℕ → Type 0
-GivesAt model = ReadsAt told model
+-- the same of a call on a reader
+abbrev pub GivesAt : {X Y : Type 0} → (X → Y) → Reading Y → Reader → Result X Failure → Reader → Type 0
+GivesAt model = Reads told model
 
--- the same of a reader that hands out a part of its text
-abbrev pub MarksAt : Result (List ℕ × ℕ) Fault → Result (Bor (List ℕ)) Fault → ℕ → Type 0
-MarksAt = ReadsAt (λ f. Some f) (λ x. x.now)
+-- the same of a call that hands out a part of its text
+abbrev pub MarksAt : Reading (List ℕ) → Reader → Result (Bor (List ℕ)) Fault → Reader → Type 0
+MarksAt = Reads (λ f. Some f) (λ x. x.now)

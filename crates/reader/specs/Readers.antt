@@ -1,5 +1,5 @@
 -- What a call on a reader does: the answer of a reading, and where the reader stands after it. Assumes nothing.
-use Rattle.std.specs.Prelude.{◌≡◌, ℕ, ◌^◌, ◌<◌, Bool, List, Some, None, Ok, Err, Option, Result}
+use Rattle.std.specs.Prelude.{◌≡◌, ℕ, ◌+◌, ◌^◌, ◌<◌, Bool, List, Some, None, Ok, Err, Option, Result}
 use Rattle.fault.specs.declared.Fault.{Fault}
 use Rattle.reader.specs.declared.Reader.{Reader}
 use Rattle.reader.specs.Readings.{Reading}
@@ -22,15 +22,25 @@ abbrev pub ReadsAt : {X Y E : Type 0} → (E → Option Fault) → (X → Y) →
 ReadsAt told model s (Ok x) q = s ≡ Ok (model x, q)
 ReadsAt told model s (Err e) q = Stops (told e) s q
 
--- r is itself the answer of s
-abbrev pub Answers : {X : Type 0} → Result (X × ℕ) Fault → Result X Fault → ℕ → Type 0
-Answers = ReadsAt (λ f. Some f) (λ x. x)
-
--- whatever a call may answer at a number is what test gives there
-abbrev pub Computes : (ℕ → Bool → Type 0) → (ℕ → Bool) → Type 0
-Computes Tells test = (n : ℕ) (b : Bool) → n < 2 ^ 32 → Tells n b → b ≡ test n
-
 -- only the reader's place may change
 pub record SameText (before after : Reader) : Type 0 where
   pub text : after.text ≡ before.text
   pub layer : after.layer ≡ before.layer
+
+-- the reader moved n bytes on
+pub record Moves (n : ℕ) (before after : Reader) : Type 0 where
+  pub same : SameText before after
+  pub place : after.place ≡ before.place + n
+
+-- a call at here answers r, which stands for what the reading gives there, and after is the reader then
+pub record Reads {X Y E : Type 0} (told : E → Option Fault) (model : X → Y) (reading : Reading Y) (here : Reader) (r : Result X E) (after : Reader) : Type 0 where
+  pub same : SameText here after
+  pub answers : ReadsAt told model (from reading here) r after.place
+
+-- r is itself what the reading gives
+abbrev pub Answers : {X : Type 0} → Reading X → Reader → Result X Fault → Reader → Type 0
+Answers = Reads (λ f. Some f) (λ x. x)
+
+-- whatever a call may answer at a number is what test gives there
+abbrev pub Computes : (ℕ → Bool → Type 0) → (ℕ → Bool) → Type 0
+Computes Tells test = (n : ℕ) (b : Bool) → n < 2 ^ 32 → Tells n b → b ≡ test n

@@ -7,7 +7,7 @@ ghost use Rattle.fault.specs.Faults.{fault as fault_at};
 ghost use Rattle.fault.specs.declared.Refusal.TheVariants.{OutOfRange};
 ghost use Rattle.reader.specs.Bytes.{run, line_end};
 ghost use Rattle.reader.specs.Readings.{begins_at, expect as expected, end_line, end_text, digits_value, number_here, number_if as numbers_if, number_in as numbers_in, line_of};
-ghost use Rattle.reader.specs.Readers.{text_of, from, Answers, Computes, SameText};
+ghost use Rattle.reader.specs.Readers.{text_of, Answers, Computes, Moves, SameText};
 
 use crate::{ByteKind, Reader, line_end_length};
 use fault::{Fault, Layer, Refusal};
@@ -93,8 +93,7 @@ impl<'a> Reader<'a> {
     // Moves past `word` where it stands here, and tells whether it does.
     pub fn skip(&mut self, word: &[u8]) -> bool
         ensures value { result ≡ begins_at (text_of self.old) self.old.place word.now }
-        ensures after { self.new.place ≡ (if result then self.old.place + length word.now else self.old.place) }
-        ensures same { SameText self.old self.new }
+        ensures moves { Moves (if result then length word.now else 0) self.old self.new }
     {
         if !self.stands(word) {
             return false;
@@ -105,8 +104,7 @@ impl<'a> Reader<'a> {
 
     // Moves past `word`, which is to stand here.
     pub fn expect(&mut self, word: &[u8]) -> Result<(), Fault>
-        ensures value { Answers (from (expected word.now) self.old) result self.new.place }
-        ensures same { SameText self.old self.new }
+        ensures { Answers (expected word.now) self.old result self.new }
     {
         if self.skip(word) {
             Ok(())
@@ -117,8 +115,7 @@ impl<'a> Reader<'a> {
 
     // Moves past the line end that is to stand here.
     pub fn end_line(&mut self) -> Result<(), Fault>
-        ensures value { Answers (from end_line self.old) result self.new.place }
-        ensures same { SameText self.old self.new }
+        ensures { Answers end_line self.old result self.new }
     {
         let length = line_end_length(self.text, self.place);
         if length == 0 {
@@ -130,7 +127,7 @@ impl<'a> Reader<'a> {
 
     // Nothing is to follow.
     pub fn end_text(&self) -> Result<(), Fault>
-        ensures value { Answers (from end_text self.now) result self.now.place }
+        ensures { Answers end_text self.now result self.now }
     {
         if self.at_end() {
             Ok(())
@@ -151,8 +148,7 @@ impl<'a> Reader<'a> {
     // Moves past the longest run of bytes of one kind that stands here, and hands it out as a part of the text.
     pub fn take_run(&mut self, kind: ByteKind) -> &'a [u8]
         ensures value { result.now ≡ run kind (drop self.old.place (text_of self.old)) }
-        ensures after { self.new.place ≡ self.old.place + length result.now }
-        ensures same { SameText self.old self.new }
+        ensures moves { Moves (length result.now) self.old self.new }
     {
         let run = self.run_here(kind);
         self.place += run.len();
@@ -179,7 +175,7 @@ impl<'a> Reader<'a> {
         refusal: Refusal,
     ) -> Result<u32, Fault>
         requires { F.IsAlwaysCallable allowed }
-        ensures value { (test : ℕ → Bool) → Computes (F.post allowed) test → Answers (from (numbers_if test refusal) self.old) result self.new.place }
+        ensures value { (test : ℕ → Bool) → Computes (F.post allowed) test → Answers (numbers_if test refusal) self.old result self.new }
         ensures passed { IfOk result (λ number. F.post allowed number true) }
         ensures same { SameText self.old self.new }
     {
@@ -193,8 +189,7 @@ impl<'a> Reader<'a> {
 
     // Moves past a number from `low` to `high`; another number is refused with `refusal`.
     pub fn number_in(&mut self, low: u32, high: u32, refusal: Refusal) -> Result<u32, Fault>
-        ensures value { Answers (from (numbers_in low high refusal) self.old) result self.new.place }
-        ensures same { SameText self.old self.new }
+        ensures { Answers (numbers_in low high refusal) self.old result self.new }
     {
         self.number_if(|number| (low..=high).contains(&number), refusal)
     }
@@ -216,8 +211,7 @@ impl<'a> Reader<'a> {
 
     // Moves past a line: a key, a number from `low` to `high` and a line end.
     pub fn number_line(&mut self, key: &[u8], low: u32, high: u32) -> Result<u32, Fault>
-        ensures value { Answers (from (line_of key.now (numbers_in low high OutOfRange)) self.old) result self.new.place }
-        ensures same { SameText self.old self.new }
+        ensures { Answers (line_of key.now (numbers_in low high OutOfRange)) self.old result self.new }
     {
         self.line(
             key,

@@ -5,6 +5,4 @@ use Rattle.reader.proofs.Lines.{line_answers}
 use Rattle.reader.proofs.Reader.number_line.Goals as goal
 
 pub returns : goal.returns
-returns c =
-    let h = line_answers (λ x. x) (number_in c.args.low c.args.high OutOfRange) c.line.ensures (λ start mid r b. let m = b.met in search rules) in
-    record { value = h.0; same = h.1 }
+returns c = line_answers (λ x. x) (number_in c.args.low c.args.high OutOfRange) c.line.ensures (λ start mid r b. let m = b.met in search rules)
