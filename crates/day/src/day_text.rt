@@ -1,6 +1,5 @@
 // The text of a day.
 ghost use Rattle.std.specs.Prelude.{vec_items};
-ghost use Rattle.reader.specs.Readers.{from as from_here, SameText};
 ghost use Rattle.reader.specs.Answers.{Gives, GivesAt, MarksAt};
 ghost use Rattle.day.specs.DayText.{marks as marks_text, some_lots, lots as lots_text, day as day_reading, read_day};
 ghost use Rattle.day.specs.Models.{day_model};
@@ -12,8 +11,7 @@ use std::alloc::Global;
 
 // The marks, as a part of the text.
 fn marks<'a>(reader: &mut Reader<'a>) -> Result<&'a [u8], Fault>
-    ensures value { MarksAt (from_here marks_text reader.old) result reader.new.place }
-    ensures same { SameText reader.old reader.new }
+    ensures { MarksAt marks_text reader.old result reader.new }
 {
     let marks = reader.take_run(ByteKind::Mark);
     if !reader.at_end() && !reader.at_line_end() {
@@ -25,8 +23,7 @@ fn marks<'a>(reader: &mut Reader<'a>) -> Result<&'a [u8], Fault>
 // One office or more with commas between.
 // Kept: a loop beside that of the divisors, since it has no limit and tests each office alone.
 fn some_lots(heap: Global, reader: &mut Reader<'_>, offices: u32) -> Result<Vec<u32>, Failure>
-    ensures value { GivesAt vec_items (from_here (some_lots offices) reader.old) result reader.new.place }
-    ensures same { SameText reader.old reader.new }
+    ensures { GivesAt vec_items (some_lots offices) reader.old result reader.new }
 {
     let mut lots = Vec::new(heap);
     loop {
@@ -41,8 +38,7 @@ fn some_lots(heap: Global, reader: &mut Reader<'_>, offices: u32) -> Result<Vec<
 // The lots: none where the line ends at once.
 // Kept: memory, reader and offices as parameters here and above, since a struct of them would be made for these two calls alone.
 fn lots(heap: Global, reader: &mut Reader<'_>, offices: u32) -> Result<Vec<u32>, Failure>
-    ensures value { GivesAt vec_items (from_here (lots_text offices) reader.old) result reader.new.place }
-    ensures same { SameText reader.old reader.new }
+    ensures { GivesAt vec_items (lots_text offices) reader.old result reader.new }
 {
     if reader.at_line_end() {
         return Ok(Vec::new(heap));
@@ -52,7 +48,7 @@ fn lots(heap: Global, reader: &mut Reader<'_>, offices: u32) -> Result<Vec<u32>,
 
 // The two lines of a day, with nothing after them.
 fn day<'a>(heap: Global, reader: &mut Reader<'a>, offices: u32) -> Result<Day<'a>, Failure>
-    ensures value { GivesAt day_model (from_here (day_reading offices) reader.old) result reader.new.place }
+    ensures { GivesAt day_model (day_reading offices) reader.old result reader.new }
 {
     let marks = reader.line(words::MARKS_KEY, marks)?;
     let lots = reader.line(words::LOTS_KEY, |reader| lots(heap, reader, offices))?;

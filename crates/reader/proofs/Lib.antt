@@ -4,4 +4,5 @@ pub mod Same
 pub mod Numbers
 pub mod ExactLists
 pub mod Given
+pub mod Steps
 pub mod Lines

@@ -6,7 +6,9 @@ use Rattle.fault.specs.declared.Refusal.TheVariants.{OutOfRange}
 use Rattle.fault.specs.Faults.{fault}
 use Rattle.reader.specs.declared.Reader.{Reader}
 use Rattle.reader.specs.Readings.{Reading, begins_at}
-use Rattle.reader.specs.Readers.{text_of, from, SameText}
+use Rattle.reader.specs.Readers.{text_of, from, SameText, Moves, Answers}
+use Rattle.reader.specs.Answers.{GivesAt}
+use Rattle.fault.specs.declared.failure.Failure.TheVariants.{Faulty}
 use Rattle.reader.proofs.Same.{same_trans, same_from, same_begins}
 use Rattle.reader.specs.Lists.{numbers}
 use Rattle.reader.specs.Words.{comma}
@@ -38,30 +40,46 @@ pub record SoFar (m : ℕ) (item : List ℕ → Reading ℕ) (start here : Reade
   pub rest : numbers (m - h) item held start.layer (text_of start) here.place ≡ from (numbers m item []) start
 
 module _ {m : ℕ} {item : List ℕ → Reading ℕ} {start here : Reader} {held : List ℕ} {h : ℕ} (s : SoFar m item start here held h) where
-  pub stop_err : (f : Fault) → from (item held) here ≡ Err f → from (numbers m item []) start ≡ Err f
-  stop_err f e = sym s.rest ∙ numbers_err item held _ _ _ (m - h) f (sym (same_from (item held) s.same) ∙ e)
+  -- no number more
+  pub stop_err : {X : Type 0} (model : X → List ℕ) {f : Fault} {after : Reader} → Answers (item held) here (Err f) after → GivesAt model (numbers m item []) start (Err (Faulty f)) after
+  stop_err model {f} e = record { same = same_trans s.same e.same; answers = (sym s.rest ∙ numbers_err item held _ _ _ (m - h) f (sym (same_from (item held) s.same) ∙ e.answers.0), e.answers.1) }
 
   -- one number more is read, and next is the reader after it
-  module _ (next : Reader) (d : ℕ) (e : from (item held) here ≡ Ok (d, next.place)) (moved : SameText here next) where
+  module _ {next : Reader} {d : ℕ} (e : Answers (item held) here (Ok d) next) where
     one : item held start.layer (text_of start) here.place ≡ Ok (d, next.place)
-    one = sym (same_from (item held) s.same) ∙ e
+    one = sym (same_from (item held) s.same) ∙ e.answers
+
+    moved : SameText start next
+    moved = same_trans s.same e.same
 
     comma_here : begins_at (text_of start) next.place comma ≡ begins_at (text_of next) next.place comma
-    comma_here = sym (same_begins comma (same_trans s.same moved))
+    comma_here = sym (same_begins comma moved)
 
-    pub stop_done : false ≡ begins_at (text_of next) next.place comma → {all : List ℕ} → all ≡ held ++ d ∷ [] → {q : ℕ} → q ≡ next.place → from (numbers m item []) start ≡ Ok (all, q)
-    stop_done ends is at = rw (is, at) (sym s.rest ∙ numbers_done item held _ _ _ d _ one (m - h) (comma_here ∙ sym ends))
-
-    pub stop_full : h ≡ m → true ≡ begins_at (text_of next) next.place comma → {f : Fault} → f ≡ fault next.layer OutOfRange next.place → from (numbers m item []) start ≡ Err f
-    stop_full end goes is =
-        let z : m - h ≡ 0 = omega arith in
-        let l : next.layer ≡ start.layer = (same_trans s.same moved).layer in
-        sym s.rest ∙ ap (λ n. numbers n item held start.layer (text_of start) here.place) z ∙ numbers_full item held _ _ _ d _ one (comma_here ∙ sym goes) ∙ ap (λ k. Err (fault k OutOfRange next.place)) (sym l) ∙ ap (λ f. Err f) (sym is)
-
-    pub go_on : (after : Reader) → h < m → true ≡ begins_at (text_of next) next.place comma → SameText next after → after.place ≡ next.place + 1 → {all : List ℕ} {g : ℕ} → all ≡ held ++ d ∷ [] → g ≡ h + 1 → SoFar m item start after all g
-    go_on after lt goes moved' at is more =
-        let n : m - h ≡ suc (m - (h + 1)) = omega arith in
+    pub stop_done : {X : Type 0} (model : X → List ℕ) {all : X} {after : Reader} → false ≡ begins_at (text_of next) next.place comma → Moves 0 next after → model all ≡ held ++ d ∷ [] → GivesAt model (numbers m item []) start (Ok all) after
+    stop_done model {after = after} ends on is =
+        let at : after.place ≡ next.place = omega (arith, on.place) in
         record {
-          same = same_trans s.same (same_trans moved moved');
+          same = same_trans moved on.same;
+          answers = rw (is, at) (sym s.rest ∙ numbers_done item held _ _ _ d _ one (m - h) (comma_here ∙ sym ends));
+        }
+
+    pub stop_full : {X : Type 0} (model : X → List ℕ) {f : Fault} → h ≡ m → true ≡ begins_at (text_of next) next.place comma → f ≡ fault next.layer OutOfRange next.place → GivesAt model (numbers m item []) start (Err (Faulty f)) next
+    stop_full model end goes is =
+        let z : m - h ≡ 0 = omega arith in
+        let l : next.layer ≡ start.layer = moved.layer in
+        record {
+          same = moved;
+          answers = (
+            sym s.rest ∙ ap (λ n. numbers n item held start.layer (text_of start) here.place) z ∙ numbers_full item held _ _ _ d _ one (comma_here ∙ sym goes) ∙ ap (λ k. Err (fault k OutOfRange next.place)) (sym l) ∙ ap (λ f. Err f) (sym is),
+            ap (λ (f : Fault). f.place) (sym is),
+          );
+        }
+
+    pub go_on : {after : Reader} → h < m → true ≡ begins_at (text_of next) next.place comma → Moves 1 next after → {all : List ℕ} {g : ℕ} → all ≡ held ++ d ∷ [] → g ≡ h + 1 → SoFar m item start after all g
+    go_on lt goes on is more =
+        let n : m - h ≡ suc (m - (h + 1)) = omega arith in
+        let at = on.place in
+        record {
+          same = same_trans moved on.same;
           rest = rw (is, at, more) (sym (numbers_next item held _ _ _ d _ one (m - (h + 1)) (comma_here ∙ sym goes)) ∙ ap (λ n. numbers n item held start.layer (text_of start) here.place) (sym n) ∙ s.rest);
         }

@@ -169,6 +169,7 @@ impl<'a> Reader<'a> {
     }
 
     // Moves past a number that passes a test; another number is refused with `refusal`.
+    // Kept: `same` beside `value`, since it holds also where no test tells what `allowed` answers.
     pub fn number_if<F: FnOnce(u32) -> bool>(
         &mut self,
         allowed: F,

@@ -1,45 +1,31 @@
--- The four lines of the terms, each read where the reader stands after the one before.
-use Rattle.std.proofs.Common.{◌≡◌, ℕ, Ok, Err, Result, sym, ◌∙◌}
-use Rattle.fault.specs.declared.Fault.{Fault}
+-- The four lines of the terms, one after another: what is to be read once those before are.
+use Rattle.std.proofs.Common.{ℕ, Ok, Result}
 use Rattle.fault.specs.declared.Refusal.TheVariants.{OutOfRange}
+use Rattle.fault.specs.declared.failure.Failure.{Failure}
 use Rattle.reader.specs.declared.Reader.{Reader}
-use Rattle.reader.specs.Readings.{bind, end_text, number_in, line_of}
-use Rattle.reader.specs.Readers.{text_of, from, SameText}
-use Rattle.reader.proofs.Exact.{bind_on, bind_stop}
-use Rattle.reader.proofs.Same.{same_trans, same_from}
-use Rattle.terms.specs.declared.model.PostChoice.{PostChoice}
-use Rattle.terms.specs.Models.{LadderModel, TermsModel}
-use Rattle.terms.specs.TermsText.{ladder, post, terms}
+use Rattle.reader.specs.Readings.{Reading, end_text, number_in, line_of}
+use Rattle.reader.specs.Readers.{Answers}
+use Rattle.reader.specs.Answers.{GivesAt}
 use Rattle.reader.specs.Words.{offices_key, grain_key, ladder_key, post_key}
+use Rattle.reader.proofs.Steps.{then_read, next_reads, done}
+use Rattle.terms.specs.declared.model.PostChoice.{PostChoice}
+use Rattle.terms.specs.declared.model.Terms.{Terms}
+use Rattle.terms.specs.Models.{LadderModel, TermsModel, terms_model}
+use Rattle.terms.specs.TermsText.{ladder, post, terms}
 
--- the first two lines are read, from a to b and from b to c
-module _ {a b c : Reader} (ab : SameText a b) (bc : SameText b c) {o g : ℕ} (eo : from (line_of offices_key (number_in 1 64 OutOfRange)) a ≡ Ok (o, b.place)) (eg : from (line_of grain_key (number_in 1 8388608 OutOfRange)) b ≡ Ok (g, c.place)) where
-  ac : SameText a c
-  ac = same_trans ab bc
+abbrev pub after_post : ℕ → ℕ → LadderModel → PostChoice → Reading TermsModel
+after_post o g r b = then_read end_text (λ _. done (record { offices = o; grain = g; ladder = r; post = b }))
 
-  on_ladder : {x : Result (TermsModel × ℕ) Fault}
-      → bind (line_of ladder_key (ladder g) a.layer (text_of a) c.place) (λ r. bind (line_of post_key post a.layer (text_of a) r.1) (λ p. bind (end_text a.layer (text_of a) p.1) (λ e. Ok (record { offices = o; grain = g; ladder = r.0; post = p.0 }, e.1)))) ≡ x
-      → from terms a ≡ x
-  on_ladder e = bind_on _ eo (bind_on _ (sym (same_from (line_of grain_key (number_in 1 8388608 OutOfRange)) ab) ∙ eg) e)
+abbrev pub after_ladder : ℕ → ℕ → LadderModel → Reading TermsModel
+after_ladder o g r = then_read (line_of post_key post) (after_post o g r)
 
-  pub ladder_stops : {f : Fault} → from (line_of ladder_key (ladder g)) c ≡ Err f → from terms a ≡ Err f
-  ladder_stops e = on_ladder (bind_stop _ (sym (same_from (line_of ladder_key (ladder g)) ac) ∙ e))
+abbrev pub after_grain : ℕ → ℕ → Reading TermsModel
+after_grain o g = then_read (line_of ladder_key (ladder g)) (after_ladder o g)
 
-  -- and the third, from c to d
-  module _ {d : Reader} (cd : SameText c d) {r : LadderModel} (er : from (line_of ladder_key (ladder g)) c ≡ Ok (r, d.place)) where
-    ad : SameText a d
-    ad = same_trans ac cd
+abbrev after_offices : ℕ → Reading TermsModel
+after_offices o = then_read (line_of grain_key (number_in 1 8388608 OutOfRange)) (after_grain o)
 
-    on_post : {x : Result (TermsModel × ℕ) Fault}
-        → bind (line_of post_key post a.layer (text_of a) d.place) (λ p. bind (end_text a.layer (text_of a) p.1) (λ e. Ok (record { offices = o; grain = g; ladder = r; post = p.0 }, e.1))) ≡ x
-        → from terms a ≡ x
-    on_post e = on_ladder (bind_on _ (sym (same_from (line_of ladder_key (ladder g)) ac) ∙ er) e)
-
-    pub post_stops : {f : Fault} → from (line_of post_key post) d ≡ Err f → from terms a ≡ Err f
-    post_stops e = on_post (bind_stop _ (sym (same_from (line_of post_key post) ad) ∙ e))
-
-    -- and the fourth, from d to e
-    pub four_lines : {e : Reader} → SameText d e → {p : PostChoice} → from (line_of post_key post) d ≡ Ok (p, e.place) → {x : Result (TermsModel × ℕ) Fault} → bind (from end_text e) (λ z. Ok (record { offices = o; grain = g; ladder = r; post = p }, z.1)) ≡ x → from terms a ≡ x
-    four_lines de {p} ep ex =
-        on_post (bind_on _ (sym (same_from (line_of post_key post) ad) ∙ ep)
-        ((λ i. bind (sym (same_from end_text (same_trans ad de)) i) (λ z. Ok (record { offices = o; grain = g; ladder = r; post = p }, z.1))) ∙ ex))
+-- the first two lines are read, from a to b and from b to c, and then the others
+pub two_lines : {a b c after : Reader} {o g : ℕ} {r : Result Terms Failure} → Answers (line_of offices_key (number_in 1 64 OutOfRange)) a (Ok o) b → Answers (line_of grain_key (number_in 1 8388608 OutOfRange)) b (Ok g) c
+    → GivesAt terms_model (after_grain o g) c r after → GivesAt terms_model terms a r after
+two_lines {o = o} {r = r} ab bc h = next_reads (line_of offices_key (number_in 1 64 OutOfRange)) after_offices r ab (next_reads (line_of grain_key (number_in 1 8388608 OutOfRange)) (after_grain o) r bc h)

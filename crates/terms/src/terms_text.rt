@@ -2,7 +2,7 @@
 ghost use Rattle.std.specs.Prelude.{◌*◌, ◌≤◌, IfOk, vec_items};
 ghost use Rattle.fault.specs.declared.Refusal.TheVariants.{OutOfRange};
 ghost use Rattle.reader.specs.Readings.{number_if};
-ghost use Rattle.reader.specs.Readers.{from as from_here, Answers, SameText};
+ghost use Rattle.reader.specs.Readers.{Answers};
 ghost use Rattle.reader.specs.Answers.{Gives, GivesAt};
 ghost use Rattle.terms.specs.Models.{ladder_model, terms_model};
 ghost use Rattle.terms.specs.TermsText.{steps_allowed, divisor_allowed, divisors as divisors_text, ladder as ladder_text, post as post_text, terms as terms_reading, read_terms};
@@ -16,8 +16,7 @@ use std::alloc::Global;
 
 // The number of steps of a halving ladder over `grain`.
 fn steps(reader: &mut Reader<'_>, grain: u32) -> Result<u32, Fault>
-    ensures value { Answers (from_here (number_if (steps_allowed grain) OutOfRange) reader.old) result reader.new.place }
-    ensures same { SameText reader.old reader.new }
+    ensures { Answers (number_if (steps_allowed grain) OutOfRange) reader.old result reader.new }
 {
     reader.number_if(
         |steps| {
@@ -30,8 +29,7 @@ fn steps(reader: &mut Reader<'_>, grain: u32) -> Result<u32, Fault>
 
 // The next divisor, where the grain and the divisors before it make `whole`.
 fn divisor(reader: &mut Reader<'_>, whole: u32) -> Result<u32, Fault>
-    ensures value { Answers (from_here (number_if (divisor_allowed whole) OutOfRange) reader.old) result reader.new.place }
-    ensures same { SameText reader.old reader.new }
+    ensures value { Answers (number_if (divisor_allowed whole) OutOfRange) reader.old result reader.new }
     ensures bound { IfOk result (λ d. whole * d ≤ 16777216) }
 {
     reader.number_if(
@@ -46,8 +44,7 @@ fn divisor(reader: &mut Reader<'_>, whole: u32) -> Result<u32, Fault>
 // One to sixteen divisors with commas between.
 // Kept: a loop beside that of the lots, since each divisor is tested with the product of those before it.
 fn divisors(heap: Global, reader: &mut Reader<'_>, grain: u32) -> Result<Vec<u32>, Failure>
-    ensures value { GivesAt vec_items (from_here (divisors_text grain) reader.old) result reader.new.place }
-    ensures same { SameText reader.old reader.new }
+    ensures { GivesAt vec_items (divisors_text grain) reader.old result reader.new }
 {
     let mut divisors = Vec::new(heap);
     let mut whole = grain;
@@ -68,8 +65,7 @@ fn divisors(heap: Global, reader: &mut Reader<'_>, grain: u32) -> Result<Vec<u32
 // The ladder: one of its words, and its numbers.
 // Kept: memory, reader and grain as parameters, since this call and the one above alone take all three.
 fn ladder(heap: Global, reader: &mut Reader<'_>, grain: u32) -> Result<LadderChoice, Failure>
-    ensures value { GivesAt ladder_model (from_here (ladder_text grain) reader.old) result reader.new.place }
-    ensures same { SameText reader.old reader.new }
+    ensures { GivesAt ladder_model (ladder_text grain) reader.old result reader.new }
 {
     if reader.skip(words::HALVING_WORD) {
         return Ok(LadderChoice::Halving(steps(reader, grain)?));
@@ -82,8 +78,7 @@ fn ladder(heap: Global, reader: &mut Reader<'_>, grain: u32) -> Result<LadderCho
 
 // The post: one of its words.
 fn post(reader: &mut Reader<'_>) -> Result<PostChoice, Fault>
-    ensures value { Answers (from_here post_text reader.old) result reader.new.place }
-    ensures same { SameText reader.old reader.new }
+    ensures { Answers post_text reader.old result reader.new }
 {
     if reader.skip(words::DIRECT_WORD) {
         Ok(PostChoice::Direct)
@@ -96,7 +91,7 @@ fn post(reader: &mut Reader<'_>) -> Result<PostChoice, Fault>
 
 // The four lines of the terms, with nothing after them.
 fn terms(heap: Global, reader: &mut Reader<'_>) -> Result<Terms, Failure>
-    ensures value { GivesAt terms_model (from_here terms_reading reader.old) result reader.new.place }
+    ensures { GivesAt terms_model terms_reading reader.old result reader.new }
 {
     let offices = reader.number_line(words::OFFICES_KEY, 1, OfficeCount::MOST)?;
     let grain = reader.number_line(words::GRAIN_KEY, 1, LARGEST_GRAIN)?;

@@ -5,4 +5,4 @@ use Rattle.reader.proofs.Given.{gives_whole}
 use Rattle.terms.proofs.terms_text.read_terms.Goals as goal
 
 pub returns : goal.returns
-returns c = record { value = gives_whole terms_model c.terms.result c.terms.new.reader.place c.terms.ensures.value (from_new terms c.new.result c.new.ensures.layer c.new.ensures.text c.new.ensures.place) }
+returns c = record { value = gives_whole terms_model c.terms.result c.terms.ensures (from_new terms c.new.result c.new.ensures.layer c.new.ensures.text c.new.ensures.place) }
