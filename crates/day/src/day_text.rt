@@ -1,7 +1,7 @@
 // The text of a day.
 ghost use Rattle.std.specs.Prelude.{vec_items};
 ghost use Rattle.reader.specs.Answers.{Gives, GivesAt, MarksAt};
-ghost use Rattle.day.specs.DayText.{marks as marks_text, some_lots, lots as lots_text, day as day_reading, read_day};
+ghost use Rattle.day.specs.DayText.{marks as marks_text, lots as lots_text, day as day_reading, read_day};
 ghost use Rattle.day.specs.Models.{day_model};
 
 use crate::Day;
@@ -20,30 +20,19 @@ fn marks<'a>(reader: &mut Reader<'a>) -> Result<&'a [u8], Fault>
     Ok(marks)
 }
 
-// One office or more with commas between.
-// Kept: a loop beside that of the divisors, since it has no limit and tests each office alone.
-fn some_lots(heap: Global, reader: &mut Reader<'_>, offices: u32) -> Result<Vec<u32>, Failure>
-    ensures { GivesAt vec_items (some_lots offices) reader.old result reader.new }
-{
-    let mut lots = Vec::new(heap);
-    loop {
-        let office = reader.number_in(1, offices, Refusal::NoSuchOfficeOrLane)?;
-        lots.push(office)?;
-        if !reader.skip(words::COMMA) {
-            return Ok(lots);
-        }
-    }
-}
-
-// The lots: none where the line ends at once.
-// Kept: memory, reader and offices as parameters here and above, since a struct of them would be made for these two calls alone.
+// The offices with commas between; none where the line ends at once.
 fn lots(heap: Global, reader: &mut Reader<'_>, offices: u32) -> Result<Vec<u32>, Failure>
     ensures { GivesAt vec_items (lots_text offices) reader.old result reader.new }
 {
     if reader.at_line_end() {
         return Ok(Vec::new(heap));
     }
-    some_lots(heap, reader, offices)
+    reader.numbers(
+        heap,
+        None,
+        |_, office| (1..=offices).contains(&office),
+        Refusal::NoSuchOfficeOrLane,
+    )
 }
 
 // The two lines of a day, with nothing after them.

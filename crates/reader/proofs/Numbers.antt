@@ -1,5 +1,7 @@
 -- Numbers with commas between, one at a time.
-use Rattle.std.proofs.Common.{◌≡◌, ℕ, zero, suc, ◌+◌, ◌-◌, ◌<◌, true, false, List, [], ◌∷◌, ◌++◌, Ok, Err, sym, ap, ◌∙◌, arith}
+use Rattle.std.proofs.Common.{◌≡◌, ℕ, zero, suc, ◌+◌, ◌-◌, ◌<◌, ◌≤◌, Bool, true, false, leb, List, [], ◌∷◌, ◌++◌, length, Some, None, Ok, Err, Option, sym, ap, ◌∙◌, arith}
+use Rattle.std.specs.Option.{MatchOption}
+use Rattle.std.proofs.lemmas.Bool.{false≢true, leb-true, leb-false}
 use Rattle.fault.specs.declared.Fault.{Fault}
 use Rattle.fault.specs.declared.Layer.{Layer}
 use Rattle.fault.specs.declared.Refusal.TheVariants.{OutOfRange}
@@ -10,7 +12,7 @@ use Rattle.reader.specs.Readers.{text_of, from, SameText, Moves, Answers}
 use Rattle.reader.specs.Answers.{GivesAt}
 use Rattle.fault.specs.declared.failure.Failure.TheVariants.{Faulty}
 use Rattle.reader.proofs.Same.{same_trans, same_from, same_begins}
-use Rattle.reader.specs.Lists.{numbers}
+use Rattle.reader.specs.Lists.{numbers, further}
 use Rattle.reader.specs.Words.{comma}
 
 module _ (item : List ℕ → Reading ℕ) (before : List ℕ) (l : Layer) (t : List ℕ) (p : ℕ) where
@@ -33,6 +35,15 @@ module _ (item : List ℕ → Reading ℕ) (before : List ℕ) (l : Layer) (t : 
   unfolding numbers
   numbers_err zero f e = rw e
   numbers_err (suc n) f e = rw e
+
+-- the limit is reached with g numbers, h before the last, or it is not
+pub limit_full : (most : Option ℕ) (t : List ℕ) (b : Bool) (g : ℕ) {h : ℕ} → MatchOption most (b ≡ false) (λ m. b ≡ leb m g) → b ≡ true → g ≡ h + 1 → h ≤ further most t → h ≡ further most t
+limit_full (Some m) t b g e is more few = let l = leb-true m g (sym e ∙ is) in omega (arith, l)
+limit_full None t b g e is more few = absurd (false≢true (sym e ∙ is))
+
+pub limit_left : (most : Option ℕ) (t : List ℕ) (b : Bool) (g : ℕ) {h : ℕ} → MatchOption most (b ≡ false) (λ m. b ≡ leb m g) → b ≡ false → g ≡ h + 1 → h < length t → h < further most t
+limit_left (Some m) t b g e is more few = let l = leb-false m g (sym e ∙ is) in omega (arith, l)
+limit_left None t b g e is more few = few
 
 -- a loop that reads at most m + 1 numbers: it began at start, stands at here, and holds h of them
 pub record SoFar (m : ℕ) (item : List ℕ → Reading ℕ) (start here : Reader) (held : List ℕ) (h : ℕ) : Type 0 where

@@ -3,7 +3,7 @@ use Rattle.std.proofs.Common.{◌≡◌, ℕ, Some, None, Ok, Err, Option, Resul
 use Rattle.fault.specs.declared.Fault.{Fault}
 use Rattle.reader.specs.declared.Reader.{Reader}
 use Rattle.reader.specs.Readings.{Reading, bind}
-use Rattle.reader.specs.Readers.{from, Stops, Reads}
+use Rattle.reader.specs.Readers.{from, Stops, ReadsAt, Reads}
 use Rattle.reader.proofs.Exact.{bind_on, bind_stop}
 use Rattle.reader.proofs.Same.{same_trans, same_from}
 
@@ -30,6 +30,10 @@ module _ {Y Z : Type 0} (first : Reading Y) (next : Y → Reading Z) {here mid :
         same = same_trans h.same k.same;
         answers = stops_on (told' e) (from (next (model x)) mid) (from (then_read first next) here) after.place (λ f s. bind_on _ h.answers (sym (same_from (next (model x)) h.same) ∙ s)) k.answers;
       }
+
+-- two readings that give the same where the reader stands
+pub reads_same : {X Y E : Type 0} {told : E → Option Fault} {model : X → Y} {one other : Reading Y} {here after : Reader} {r : Result X E} → from one here ≡ from other here → Reads told model one here r after → Reads told model other here r after
+reads_same {told = told} {model = model} {after = after} {r = r} e h = record { same = h.same; answers = subst (λ s. ReadsAt told model s r after.place) e h.answers }
 
 -- the same fault in another type of error
 pub stops_as : {X V Y E : Type 0} {told : E → Option Fault} {reading : Reading Y} {here after : Reader} {model : X → Y} {model' : V → Y} {f : Fault} {e : E} → Reads (λ f. Some f) model reading here (Err f) after → told e ≡ Some f → Reads told model' reading here (Err e) after

@@ -7,6 +7,7 @@ use fault::Layer;
 
 mod byte_kind;
 mod line_end;
+mod number_list;
 mod reading;
 pub mod words;
 

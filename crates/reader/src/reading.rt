@@ -179,6 +179,7 @@ impl<'a> Reader<'a> {
         ensures value { (test : ℕ → Bool) → Computes (F.post allowed) test → Answers (numbers_if test refusal) self.old result self.new }
         ensures passed { IfOk result (λ number. F.post allowed number true) }
         ensures same { SameText self.old self.new }
+        ensures forward { self.old.place ≤ self.new.place }
     {
         let number = self.number_here()?;
         if !allowed(number) {

@@ -1,6 +1,7 @@
 // The text of the terms.
-ghost use Rattle.std.specs.Prelude.{◌*◌, ◌≤◌, IfOk, vec_items};
+ghost use Rattle.std.specs.Prelude.{◌≡◌, ◌*◌, vec_items};
 ghost use Rattle.fault.specs.declared.Refusal.TheVariants.{OutOfRange};
+ghost use Rattle.ladder.specs.Slacks.{product};
 ghost use Rattle.reader.specs.Readings.{number_if};
 ghost use Rattle.reader.specs.Readers.{Answers};
 ghost use Rattle.reader.specs.Answers.{Gives, GivesAt};
@@ -27,39 +28,26 @@ fn steps(reader: &mut Reader<'_>, grain: u32) -> Result<u32, Fault>
     )
 }
 
-// The next divisor, where the grain and the divisors before it make `whole`.
-fn divisor(reader: &mut Reader<'_>, whole: u32) -> Result<u32, Fault>
-    ensures value { Answers (number_if (divisor_allowed whole) OutOfRange) reader.old result reader.new }
-    ensures bound { IfOk result (λ d. whole * d ≤ 16777216) }
+// Whether one more divisor may follow those before it, over `grain`.
+fn may_follow(grain: u32, before: &[u32], divisor: u32) -> bool
+    ensures { result ≡ divisor_allowed (grain * product before.now) divisor }
 {
-    reader.number_if(
-        |divisor| {
-            (2..=LARGEST_DIVISOR).contains(&divisor)
-                && u64::from(whole) * u64::from(divisor) <= u64::from(LARGEST_TOP)
-        },
-        Refusal::OutOfRange,
-    )
+    let whole = before
+        .iter()
+        .fold(grain, |whole, divisor| whole.saturating_mul(*divisor));
+    (2..=LARGEST_DIVISOR).contains(&divisor) && whole.saturating_mul(divisor) <= LARGEST_TOP
 }
 
 // One to sixteen divisors with commas between.
-// Kept: a loop beside that of the lots, since each divisor is tested with the product of those before it.
 fn divisors(heap: Global, reader: &mut Reader<'_>, grain: u32) -> Result<Vec<u32>, Failure>
     ensures { GivesAt vec_items (divisors_text grain) reader.old result reader.new }
 {
-    let mut divisors = Vec::new(heap);
-    let mut whole = grain;
-    loop {
-        let next = divisor(reader, whole)?;
-        divisors.push(next)?;
-        if !reader.stands(words::COMMA) {
-            return Ok(divisors);
-        }
-        if divisors.len() == MOST_STEPS {
-            return Err(reader.fault(Refusal::OutOfRange).into());
-        }
-        reader.skip(words::COMMA);
-        whole *= next;
-    }
+    reader.numbers(
+        heap,
+        Some(MOST_STEPS),
+        |before, divisor| may_follow(grain, before, divisor),
+        Refusal::OutOfRange,
+    )
 }
 
 // The ladder: one of its words, and its numbers.
