@@ -1,5 +1,5 @@
 -- What is read is what is written, for each reading: one way `-sound`, the other `-full`.
-use Rattle.std.proofs.Common.{◌≡◌, ℕ, suc, ◌+◌, ◌<◌, ◌≤◌, Bool, true, false, cond, ◌&&◌, eqb, ltb, leb, List, [], ◌∷◌, ◌++◌, length, get_or, take, drop, Ok, Err, decimal, Result, sym, refl, ap, ◌∙◌, subst, ⊎_elim, arith, length-drop}
+use Rattle.std.proofs.Common.{◌≡◌, ℕ, suc, ◌+◌, ◌<◌, ◌≤◌, Bool, true, false, cond, eqb, ltb, List, [], ◌∷◌, ◌++◌, length, get_or, take, drop, Ok, Err, decimal, Result, sym, refl, ap, ◌∙◌, subst, ⊎_elim, arith, length-drop}
 use Rattle.std.specs.Char.{is_ascii_digit}
 use Rattle.std.specs.List.{prefix_len, AllByRecursion as All}
 use Rattle.std.specs.Str.{all_ascii_digits}
@@ -16,9 +16,7 @@ use Rattle.fault.specs.declared.Refusal.{Refusal}
 use Rattle.reader.specs.declared.byte_kind.ByteKind.{ByteKind}
 use Rattle.reader.specs.declared.byte_kind.ByteKind.TheVariants.{Digit}
 use Rattle.reader.specs.Bytes.{of_kind, run, line_end}
-use Rattle.reader.specs.Readings.{Reading, bind, begins_at, expect, end_line, end_text, digits_value, is_numeral, number_of, digits_at, number_here, number_if, number_in, line_of}
-use Rattle.reader.specs.declared.Reader.{Reader}
-use Rattle.reader.specs.Readers.{text_of, from}
+use Rattle.reader.specs.Readings.{Reading, bind, begins_at, expect, end_line, end_text, digits_value, is_numeral, number_of, digits_at, number_here, number_if, line_of}
 use Rattle.reader.proofs.Scan.{own, all_digits}
 
 -- the steps of a reading that came to its end
@@ -148,17 +146,6 @@ module _ (allowed : ℕ → Bool) (refusal : Refusal) (l : Layer) (t : List ℕ)
       let is : digits_at t p ≡ decimal v = ap (run Digit) e ∙ run_all Digit (decimal v) rest (each_digit (decimal v) (digits_decimal own v (omega arith))) s in
       let here : number_here l t p ≡ Ok v = ap (number_of l p) is ∙ cond-true _ _ _ (numeral_from (decimal v) (decimal_numeral v lt)) ∙ ap (λ n. Ok n) (digits_value-decimal own v (omega arith)) in
       bind_on _ here (cond-true _ _ _ ok ∙ ap (λ ds. Ok (v, p + length ds)) is)
-
-  -- a number has a byte at least
-  pub number_moves : (p v q : ℕ) → number_if allowed refusal l t p ≡ Ok (v, q) → p < q
-  number_moves p v q e =
-      let a = bind_inv (number_here l t p) _ (v, q) e in
-      let n = numeral_tells (digits_at t p) (cond_inv _ _ _ _ a.1).0 in
-      let s = ap (λ (y : ℕ × ℕ). y.1) (cond_inv _ _ _ _ a.2).1 in
-      omega (arith, n.some, s)
-
-pub number_in_moves : (low high : ℕ) (refusal : Refusal) (here : Reader) (v q : ℕ) → from (number_in low high refusal) here ≡ Ok (v, q) → here.place < q
-number_in_moves low high refusal here v q e = number_moves (λ n. leb low n && leb n high) refusal here.layer (text_of here) here.place v q e
 
 -- a line: where body reads W exactly, the line is read exactly
 module _ {X : Type 0} (W : X → List ℕ) (R : X → Type 0) (key : List ℕ) (body : Reading X) (l : Layer) (t : List ℕ) where

@@ -66,13 +66,8 @@ module _ {m : ℕ} {item : List ℕ → Reading ℕ} {start here : Reader} {held
     comma_here : begins_at (text_of start) next.place comma ≡ begins_at (text_of next) next.place comma
     comma_here = sym (same_begins comma moved)
 
-    pub stop_done : {X : Type 0} (model : X → List ℕ) {all : X} {after : Reader} → false ≡ begins_at (text_of next) next.place comma → Moves 0 next after → model all ≡ held ++ d ∷ [] → GivesAt model (numbers m item []) start (Ok all) after
-    stop_done model {after = after} ends on is =
-        let at : after.place ≡ next.place = omega (arith, on.place) in
-        record {
-          same = same_trans moved on.same;
-          answers = rw (is, at) (sym s.rest ∙ numbers_done item held _ _ _ d _ one (m - h) (comma_here ∙ sym ends));
-        }
+    pub stop_done : {X : Type 0} (model : X → List ℕ) {all : X} → false ≡ begins_at (text_of next) next.place comma → model all ≡ held ++ d ∷ [] → GivesAt model (numbers m item []) start (Ok all) next
+    stop_done model ends is = record { same = moved; answers = rw is (sym s.rest ∙ numbers_done item held _ _ _ d _ one (m - h) (comma_here ∙ sym ends)) }
 
     pub stop_full : {X : Type 0} (model : X → List ℕ) {f : Fault} → h ≡ m → true ≡ begins_at (text_of next) next.place comma → f ≡ fault next.layer OutOfRange next.place → GivesAt model (numbers m item []) start (Err (Faulty f)) next
     stop_full model end goes is =

@@ -11,6 +11,7 @@ use std::alloc::Global;
 
 impl<'a> Reader<'a> {
     // Moves past one number or more with commas between. Each is to pass a test, which is told those before it; another is refused with `refusal`. A comma after the `most` numbers that there may be is out of range.
+    // Kept: `same` beside `value`, since it holds also where no test tells what `allowed` answers.
     pub fn numbers<F: Fn(&[u32], u32) -> bool>(
         &mut self,
         heap: Global,

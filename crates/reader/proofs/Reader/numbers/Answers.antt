@@ -1,4 +1,4 @@
-use Rattle.std.proofs.Common.{◌≡◌, ◌<◌, length, vec_items, vec_len, Global, cond, refl, ap, ◌∙◌, sym, subst, rules, arith}
+use Rattle.std.proofs.Common.{◌≡◌, ◌<◌, length, vec_items, vec_len, Global, cond, ap, ◌∙◌, sym, subst, rules, arith}
 use Rattle.std.proofs.lemmas.Result.{err_from_is_err_and}
 use Rattle.reader.specs.Lists.{further}
 use Rattle.reader.specs.Readers.{text_of, Moves}
@@ -15,7 +15,7 @@ returns-in_err-number-clause-value g c = λ test computes.
 pub returns-then-not-stands-clause-value : goal.returns-then-not-stands-clause-value
 returns-then-not-stands-clause-value g c = λ test computes.
     stop_done (c.loop-numbers.invariant.1 test computes) (c.in_ok-number.ensures.value (test (vec_items c.loop-numbers.numbers)) (λ n b fits told. search rules)) (vec_items {Z = Global}) {all = c.push.new.self}
-    c.if-not-stands.ensures.value (record { same = record { text = refl; layer = refl }; place = omega arith }) c.in_ok-push.ensures.items
+    c.if-not-stands.ensures.value c.in_ok-push.ensures.items
 
 pub returns-then-is_some_and-clause-value : goal.returns-then-is_some_and-clause-value
 returns-then-is_some_and-clause-value g c = λ test computes.
