@@ -1,1 +1,2 @@
 pub mod WholeLines
+pub mod Flushed

@@ -1,6 +1,6 @@
 -- The lines of a table, and their answers. Assumes nothing.
 use Rattle.std.specs.Prelude.{◌≡◌, ℕ, ◌<◌, List, [], ◌∷◌, ◌++◌, length, take, cond, Ok, Result, ◌==◌, nat_lt}
-use Rattle.std.specs.List.{position_or_len, before_first, after_first, count_by, slice_split}
+use Rattle.std.specs.List.{FoldsTo, position_or_len, before_first, after_first, count_by, slice_split}
 use Rattle.texts.specs.declared.both_texts.Texts.{Texts}
 use Rattle.answer_table.specs.Escapes.{decoded}
 
@@ -27,3 +27,7 @@ AnswersLine may line v = (texts : Texts) × (texts.terms.now ≡ terms_in line) 
 -- after such an answer and a line end, what was made is more
 abbrev pub MakesMore : {V E : Type 0} → (V → List ℕ) → (Texts → Result V E → Type 0) → (made line more : List ℕ) → Type 0
 MakesMore {V} bytes may made line more = (v : V) × AnswersLine may line v × (more ≡ made ++ (bytes v ++ 10 ∷ []))
+
+-- made is an answer to each line of the table in turn, and a line end after each
+abbrev pub AnswersTable : {V E : Type 0} → (V → List ℕ) → (Texts → Result V E → Type 0) → (table made : List ℕ) → Type 0
+AnswersTable bytes may table made = FoldsTo (MakesMore bytes may) [] (whole_lines table) made

@@ -1,7 +1,7 @@
 // The lines of a table, and their answers.
-ghost use Rattle.std.specs.Prelude.{◌≡◌, ◌≤◌, [], length, vec_items, IfOk, MatchOption, ◌==◌};
-ghost use Rattle.std.specs.List.{FoldsTo, position, position_or_len};
-ghost use Rattle.answer_table.specs.Tables.{CutsAt, whole_lines, AnswersLine, MakesMore};
+ghost use Rattle.std.specs.Prelude.{◌≡◌, ◌≤◌, length, vec_items, IfOk, MatchOption, ◌==◌};
+ghost use Rattle.std.specs.List.{position, position_or_len};
+ghost use Rattle.answer_table.specs.Tables.{CutsAt, AnswersLine, AnswersTable};
 
 use crate::decode;
 use std::alloc::{AllocError, Global};
@@ -58,7 +58,7 @@ pub fn answers<F: Fn(Global, Texts<'_, '_>) -> Result<Vec<u8>, AllocError>>(
     answer: F,
 ) -> Result<Vec<u8>, AllocError>
     requires { F.IsAlwaysCallable answer }
-    ensures { IfOk result (λ v. FoldsTo (MakesMore vec_items (λ texts r. F.post answer heap texts r)) [] (whole_lines table.now) v.items) }
+    ensures { IfOk result (λ v. AnswersTable vec_items (λ texts r. F.post answer heap texts r) table.now v.items) }
 {
     let mut made = Vec::new(heap);
     let mut rest = table;

@@ -1,19 +1,16 @@
 // Answers a table of pairs of texts, which an unrelated program has answered too (see reference/).
 #![tactic(auto)]
 
-use answer_table::answers;
+use answer_table::run;
 use answering::answer;
-use std::io::{Read, Write};
+use std::io;
 
-// Kept: a main for each program, alike but for the function that answers, since what reads and writes has no clause that a shared call could promise.
-fn main(rt: HostRuntime) -> anyhow::Result<()> {
-    let mut table = Vec::new(rt.alloc());
-    rt.stdin().read_to_end(&mut table)?;
-    let printed = answers(rt.alloc(), table.as_slice(), |heap, texts| {
-        answer(heap, texts)
-    })?;
-    let mut out = rt.stdout();
-    out.write_all(printed.as_slice())?;
-    out.flush()?;
-    Ok(())
+fn main(rt: HostRuntime) -> io::Result<()> {
+    // Kept: a closure around `answer`; tried by its name, and a function of another crate gets no proof there.
+    run(
+        rt.alloc(),
+        &mut rt.stdin(),
+        &mut rt.stdout(),
+        |heap, texts| answer(heap, texts),
+    )
 }

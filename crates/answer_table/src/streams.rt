@@ -1,0 +1,26 @@
+// A table is read, and its answers are written.
+ghost use Rattle.std.specs.Prelude.{List, ℕ, vec_items, IfSome, OnOk};
+ghost use Rattle.std.specs.Io.KnownBytes.{Appends};
+ghost use Rattle.answer_table.specs.Tables.{AnswersTable};
+
+use crate::answers;
+use std::alloc::{AllocError, Global};
+use std::io::{self, Read, Write};
+use texts::Texts;
+
+// Reads a whole table, and writes the answers to its lines and nothing else.
+pub fn run<R: Read, W: Write, F: Fn(Global, Texts<'_, '_>) -> Result<Vec<u8>, AllocError>>(
+    heap: Global,
+    reader: &mut R,
+    writer: &mut W,
+    answer: F,
+) -> io::Result<()>
+    requires { F.IsAlwaysCallable answer }
+    ensures { OnOk result (IfSome (R.remaining reader.old) (λ table. (made : List ℕ) × AnswersTable vec_items (λ texts r. F.post answer heap texts r) table made × Appends (W.contents writer.old) (W.contents writer.new) made)) }
+{
+    let mut table = Vec::new(heap);
+    reader.read_to_end(&mut table)?;
+    let made = answers(heap, table.as_slice(), answer)?;
+    writer.write_all(made.as_slice())?;
+    writer.flush()
+}
