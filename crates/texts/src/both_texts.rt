@@ -32,22 +32,16 @@ fn short(layer: Layer, text: &[u8]) -> Result<(), Fault>
 }
 
 impl<'t, 'd> Texts<'t, 'd> {
-    // Lengths, terms, day, in this order.
-    fn read_in_turn(self, heap: Global) -> Result<(Terms, Day<'d>), Failure>
+    // What the two texts say, or their first fault: both lengths are looked at first, then the terms and the day are read.
+    #[tactic(auto, using(crate::proofs::ExactBoth::exactly))]
+    pub fn read(self, heap: Global) -> Result<(Terms, Day<'d>), Failure>
         ensures value { Gives both_model (read_both self.entry.terms.now self.entry.day.now) result }
+        ensures exact { ReadsExactly self.entry.terms.now self.entry.day.now result }
     {
         short(Layer::Terms, self.terms)?;
         short(Layer::Day, self.day)?;
         let agreed = read_terms(heap, self.terms)?;
         let played = read_day(heap, self.day, agreed.offices)?;
         Ok((agreed, played))
-    }
-
-    // What the two texts say, or their first fault: both lengths are looked at first, then the terms and the day are read.
-    pub fn read(self, heap: Global) -> Result<(Terms, Day<'d>), Failure>
-        ensures value { Gives both_model (read_both self.entry.terms.now self.entry.day.now) result }
-        ensures exact { ReadsExactly self.entry.terms.now self.entry.day.now result }
-    {
-        self.read_in_turn(heap)
     }
 }
