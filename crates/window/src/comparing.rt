@@ -25,7 +25,7 @@ fn same_heads<P: Post, Q: Post>(first: &Window<P>, second: &Window<Q>) -> bool
 {
     first.office_count() == second.office_count()
         && first.checked.books.coordinator == second.checked.books.coordinator
-        && first.messages().number() == second.messages().number()
+        && first.messages() == second.messages()
 }
 
 // Compares every figure of the books.
