@@ -2,7 +2,7 @@
 #![tactic(auto)]
 
 ghost use Rattle.std.specs.Prelude.{◌≡◌};
-ghost use Rattle.fault.specs.Faults.{refusal_number, layer_name};
+ghost use Rattle.fault.specs.Faults.{fault as fault_of, refusal_number, layer_name};
 
 mod failure;
 
@@ -34,6 +34,17 @@ impl Layer {
             Layer::Ladder => "ladder",
             Layer::Post => "post",
             Layer::Wire => "wire",
+        }
+    }
+
+    // The layer refuses, at the place.
+    pub fn fault(self, refusal: Refusal, place: usize) -> Fault
+        ensures { result ≡ fault_of self refusal place }
+    {
+        Fault {
+            layer: self,
+            refusal,
+            place,
         }
     }
 }

@@ -27,11 +27,7 @@ impl OfficeCount {
         ensures count { IfOk result (λ c. c.number ≡ number) }
     {
         if !(1..=OfficeCount::MOST).contains(&number) {
-            return Err(Fault {
-                layer,
-                refusal: Refusal::OutOfRange,
-                place: number as usize,
-            });
+            return Err(layer.fault(Refusal::OutOfRange, number as usize));
         }
         Ok(OfficeCount { number })
     }

@@ -7,7 +7,6 @@ ghost use Rattle.post.specs.Lanes.{Lane, PostLaw, send as send_lane, take as tak
 ghost use Rattle.post.specs.Outs.{out};
 
 mod direct_post;
-mod faults;
 mod lane_table;
 mod messages;
 mod slot;

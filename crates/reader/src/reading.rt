@@ -55,11 +55,7 @@ impl<'a> Reader<'a> {
     pub fn fault(&self, refusal: Refusal) -> Fault
         ensures value { result ≡ fault_at self.now.layer refusal self.now.place }
     {
-        Fault {
-            layer: self.layer,
-            refusal,
-            place: self.place,
-        }
+        self.layer.fault(refusal, self.place)
     }
 
     // What is left of the text.

@@ -14,11 +14,7 @@ fn copy_to_start(text: &[u8], buffer: &mut [u8]) -> Result<usize, Fault>
 {
     let needed = text.len();
     if needed > buffer.len() {
-        return Err(Fault {
-            layer: Layer::Report,
-            refusal: Refusal::BufferTooShort,
-            place: needed,
-        });
+        return Err(Layer::Report.fault(Refusal::BufferTooShort, needed));
     }
     buffer[0..needed].copy_from_slice(text);
     Ok(needed)

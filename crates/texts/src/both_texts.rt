@@ -22,11 +22,7 @@ fn short(layer: Layer, text: &[u8]) -> Result<(), Fault>
     ensures { result ≡ short_text layer text.now }
 {
     if text.len() > MOST_BYTES {
-        return Err(Fault {
-            layer,
-            refusal: Refusal::TextTooLong,
-            place: MOST_BYTES,
-        });
+        return Err(layer.fault(Refusal::TextTooLong, MOST_BYTES));
     }
     Ok(())
 }

@@ -1,9 +1,7 @@
-// The tests that a marked wire is made by, and the faults of the layer.
+// The tests that a marked wire is made by.
 ghost use Rattle.std.specs.Prelude.{◌≡◌, not};
 ghost use Rattle.std.specs.List.{position};
 ghost use Rattle.std.specs.Result.{result_err};
-ghost use Rattle.fault.specs.Faults.{fault as fault_of};
-ghost use Rattle.fault.specs.declared.Layer.TheVariants.{Wire};
 ghost use Rattle.marks.specs.MarkBytes.{is_mark};
 ghost use Rattle.wire.specs.Makers.{bytes_fault, marks_fault};
 
@@ -11,18 +9,6 @@ use fault::{Fault, Layer, Refusal};
 use marks::Mark;
 
 const MOST_MARKS: usize = 65_535;
-
-// A fault of a wire.
-// Kept: a function of its own, since it names the layer once.
-pub(crate) fn wire_fault(refusal: Refusal, place: usize) -> Fault
-    ensures { result ≡ fault_of Wire refusal place }
-{
-    Fault {
-        layer: Layer::Wire,
-        refusal,
-        place,
-    }
-}
 
 // The number of the first byte that is no mark.
 fn first_other(bytes: &[u8]) -> Option<usize>
@@ -36,7 +22,7 @@ fn check_bytes(bytes: &[u8]) -> Result<(), Fault>
     ensures { result_err result ≡ bytes_fault 0 bytes.now }
 {
     match first_other(bytes) {
-        Some(index) => Err(wire_fault(Refusal::NotAMark, index)),
+        Some(index) => Err(Layer::Wire.fault(Refusal::NotAMark, index)),
         None => Ok(()),
     }
 }
@@ -46,7 +32,7 @@ pub(crate) fn check_marks(marks: &[u8]) -> Result<(), Fault>
     ensures { result_err result ≡ marks_fault marks.now }
 {
     if marks.len() > MOST_MARKS {
-        return Err(wire_fault(Refusal::TextTooLong, MOST_MARKS));
+        return Err(Layer::Wire.fault(Refusal::TextTooLong, MOST_MARKS));
     }
     check_bytes(marks)
 }

@@ -2,7 +2,6 @@
 ghost use Rattle.std.specs.Prelude.{◌≡◌, ◌<◌, ◌≤◌, length, None, Some, MatchResult, slice_set};
 ghost use Rattle.wire.specs.Wires.{wire_lane, no_such_lane, put_fault};
 
-use crate::checks::wire_fault;
 use fault::{Fault, Layer, Refusal};
 use offices::{LaneItems, OfficeCount};
 use queue::Queue;
@@ -40,9 +39,7 @@ impl Rows {
     pub(crate) fn queue(&self, lane: u32) -> Result<Queue<u16>, Fault>
         ensures { MatchResult result (λ q. (lane < length (lanes_of self.now)) × (queue_lane q ≡ wire_lane (lanes_of self.now) lane)) (λ f. (length (lanes_of self.now) ≤ lane) × (f ≡ no_such_lane lane)) }
     {
-        self.queues
-            .get(lane)
-            .ok_or(wire_fault(Refusal::NoSuchOfficeOrLane, lane as usize))
+        self.queues.get(lane).ok_or(Layer::Wire.fault(Refusal::NoSuchOfficeOrLane, lane as usize))
     }
 
     // The frames that wait on a lane which a frame may be put on.
@@ -51,7 +48,7 @@ impl Rows {
     {
         let queue = self.queue(lane)?;
         if queue.len() > MOST_PLACES {
-            return Err(wire_fault(Refusal::PlacesTaken, lane as usize));
+            return Err(Layer::Wire.fault(Refusal::PlacesTaken, lane as usize));
         }
         Ok(queue)
     }

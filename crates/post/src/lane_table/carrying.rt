@@ -7,9 +7,8 @@ ghost use Rattle.post.specs.Outs.{out};
 ghost use Rattle.post.specs.Tables.{shown, lanes_of};
 
 use super::LaneTable;
-use crate::faults::lane_fault;
 use crate::slot::Slot;
-use fault::{Fault, Refusal};
+use fault::{Fault, Layer, Refusal};
 use offices::{LaneItems, OfficeCount};
 
 impl LaneTable {
@@ -34,9 +33,7 @@ impl LaneTable {
     fn slot(&self, lane: u32) -> Result<Slot, Fault>
         ensures { MatchResult result (λ s. (lane < length (lanes_of self.now)) × (shown s ≡ lane_at (lanes_of self.now) lane)) (λ f. (length (lanes_of self.now) ≤ lane) × (f ≡ lane_fault NoSuchOfficeOrLane lane)) }
     {
-        self.slots
-            .get(lane)
-            .ok_or(lane_fault(Refusal::NoSuchOfficeOrLane, lane))
+        self.slots.get(lane).ok_or(Layer::Post.fault(Refusal::NoSuchOfficeOrLane, lane as usize))
     }
 
     // Writes the slot of a lane; past the last lane nothing changes.

@@ -4,8 +4,7 @@ ghost use Rattle.post.specs.Lanes.{no_lane, room_answer, with_byte};
 ghost use Rattle.post.specs.Tables.{shown};
 
 use super::Slot;
-use crate::faults::lane_fault;
-use fault::{Fault, Refusal};
+use fault::{Fault, Layer, Refusal};
 use queue::Queue;
 
 // The most bytes that are ever sent on a lane.
@@ -41,10 +40,10 @@ impl Slot {
         ensures { result ≡ room_answer (shown self.now) lane }
     {
         if self.sent >= MOST_SENT {
-            return Err(lane_fault(Refusal::AllSent, lane));
+            return Err(Layer::Post.fault(Refusal::AllSent, lane as usize));
         }
         if self.queue.len() >= MOST_WAITING {
-            return Err(lane_fault(Refusal::SixteenWait, lane));
+            return Err(Layer::Post.fault(Refusal::SixteenWait, lane as usize));
         }
         Ok(())
     }
