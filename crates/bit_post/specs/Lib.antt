@@ -6,3 +6,4 @@ pub mod Counted
 pub mod Lists
 pub mod Becoming
 pub mod Running
+pub mod Taking

@@ -1,8 +1,9 @@
 // How frames are put on a lane of the wire and taken off it.
-ghost use Rattle.std.specs.Prelude.{◌≡◌, ◌*◌, ◌<◌, ◌≤◌, []};
-ghost use Rattle.wire.specs.Wires.{wire_lane, no_frames, Others, Taken, PlacedBy};
+ghost use Rattle.std.specs.Prelude.{◌≡◌, ◌*◌, ◌<◌, ◌≤◌};
+ghost use Rattle.wire.specs.Wires.{wire_lane, no_frames, Taken, PlacedBy};
 ghost use Rattle.bit_post.specs.Frames.{frame_number};
 ghost use Rattle.bit_post.specs.Sending.{among};
+ghost use Rattle.bit_post.specs.Taking.{OnlyTakes};
 
 use crate::frame::Frame;
 use wire::Wire;
@@ -12,19 +13,16 @@ mod sending;
 
 // The first frame of a lane that there is.
 // Kept: a call tells its lane, and no struct of a wire and a lane is made, since two lanes of one wire are used in turn.
-// Kept: `same` stands at each call here. A definition of it would be as long, and as a law of wires it would be cited by hand wherever a lane has to be there.
 fn next<W: Wire>(wire: &mut W, lane: u32) -> Option<u16>
     requires { lane < 2 * W.Wire.offices wire.old }
-    ensures same { W.Wire.offices wire.new ≡ W.Wire.offices wire.old }
-    ensures calm { W.Wire.troubles wire.new ≡ W.Wire.troubles wire.old }
-    ensures rest { W.Wire.ran wire.old wire.new [] }
+    ensures only { OnlyTakes W.Wire.offices W.Wire.troubles W.Wire.lanes W.Wire.ran lane wire.old wire.new }
     ensures takes { Taken (wire_lane (W.Wire.lanes wire.old) lane) result (wire_lane (W.Wire.lanes wire.new) lane) }
-    ensures others { Others (W.Wire.lanes wire.old) lane (W.Wire.lanes wire.new) }
 {
     wire.take(lane).unwrap()
 }
 
 // Puts a frame on a lane that there is and that has room for it twice: the put is not refused.
+// Kept: `same` stands at each call that puts. A definition of it would be as long, and as a law of wires it would be cited by hand wherever a lane has to be there.
 fn place<W: Wire>(wire: &mut W, lane: u32, frame: Frame)
     requires there { lane < 2 * W.Wire.offices wire.old }
     requires room { (wire_lane (W.Wire.lanes wire.old) lane).places ≤ 14 }
@@ -37,11 +35,8 @@ fn place<W: Wire>(wire: &mut W, lane: u32, frame: Frame)
 // Takes every frame off a lane, and tells whether `frame` was among them.
 fn drain<W: Wire>(wire: &mut W, lane: u32, frame: Frame) -> bool
     requires { lane < 2 * W.Wire.offices wire.old }
-    ensures same { W.Wire.offices wire.new ≡ W.Wire.offices wire.old }
-    ensures calm { W.Wire.troubles wire.new ≡ W.Wire.troubles wire.old }
-    ensures rest { W.Wire.ran wire.old wire.new [] }
+    ensures only { OnlyTakes W.Wire.offices W.Wire.troubles W.Wire.lanes W.Wire.ran lane wire.old wire.new }
     ensures empty { wire_lane (W.Wire.lanes wire.new) lane ≡ no_frames }
-    ensures others { Others (W.Wire.lanes wire.old) lane (W.Wire.lanes wire.new) }
     ensures found { result ≡ among (frame_number frame) (wire_lane (W.Wire.lanes wire.old) lane).frames }
 {
     let sought = u16::from(frame);
@@ -53,13 +48,11 @@ fn drain<W: Wire>(wire: &mut W, lane: u32, frame: Frame) -> bool
 }
 
 // Takes every frame off a lane, whatever it is.
+// Kept: by `drain`, for which any frame serves, since a loop of its own would be proved the same way again.
 fn empty<W: Wire>(wire: &mut W, lane: u32)
     requires { lane < 2 * W.Wire.offices wire.old }
-    ensures same { W.Wire.offices wire.new ≡ W.Wire.offices wire.old }
-    ensures calm { W.Wire.troubles wire.new ≡ W.Wire.troubles wire.old }
-    ensures rest { W.Wire.ran wire.old wire.new [] }
+    ensures only { OnlyTakes W.Wire.offices W.Wire.troubles W.Wire.lanes W.Wire.ran lane wire.old wire.new }
     ensures empty { wire_lane (W.Wire.lanes wire.new) lane ≡ no_frames }
-    ensures others { Others (W.Wire.lanes wire.old) lane (W.Wire.lanes wire.new) }
 {
     drain(wire, lane, Frame::Acknowledgement { bit: false });
 }

@@ -16,6 +16,7 @@ mod frame_count;
 pub use frame_count::FrameCount;
 
 // The bit with which a lane's sender sends next, and the one that its far end expects: between calls they agree.
+// Kept: both of them, since the protocol has one at each end and a reader looks for both; the ghost field says that they agree.
 #[derive(Clone, Copy)]
 struct LaneBits {
     sending: bool,
@@ -25,6 +26,7 @@ struct LaneBits {
 
 // A wire, what has come over it, the bits of each lane, the frames put, and the wire's troubles when the post was made.
 // A send puts at most 131,072 frames: two, and two for each of 65,535 troubles.
+// Kept: the bits stand in a table beside that of the lanes, since the direct post has none, and a lane table over more than lanes would name a parameter in each clause about them.
 #[derive(Drop)]
 pub struct BitPost<W: Wire> {
     wire: W,

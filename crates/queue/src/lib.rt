@@ -7,17 +7,20 @@ use std::alloc::AllocError;
 
 mod queueing;
 
+// The most items that a queue holds.
+const MOST_ITEMS: usize = 16;
+
 // The items from first to last are the first `count` of the table.
-// Kept: a fixed table with its count, since a queue may not want memory.
+// Kept: a fixed table with its count, since a queue may not want memory and is copied.
 #[derive(Copy)]
 pub struct Queue<T> {
-    items: [T; 16],
+    items: [T; MOST_ITEMS],
     count: u8,
     ghost wide: { length items ≡ 16 },
     ghost fits: { count ≤ 16 },
 }
 
-// Kept: no `Clone` can be derived for a generic struct with a ghost field.
+// Kept: for a generic struct with a ghost field neither `derive` nor `derive_where` makes a `Clone`.
 impl<T: Copy> Clone for Queue<T> {
     ghost is_clone = { λ x y. y ≡ x };
 

@@ -2,10 +2,7 @@
 ghost use Rattle.std.specs.Prelude.{◌≡◌, ◌≤◌, true, [], ◌∷◌, ◌++◌, length, if◌then◌else◌, is_ok, is_err, None, Ok, Err, nat_lt};
 ghost use Rattle.queue.specs.Queues.{held, first, rest};
 
-use crate::Queue;
-
-// The most items that a queue holds.
-const MOST_ITEMS: u8 = 16;
+use crate::{MOST_ITEMS, Queue};
 
 impl<T: Copy> Queue<T> {
     // An empty queue; `blank` fills the places that are not in use.
@@ -13,7 +10,7 @@ impl<T: Copy> Queue<T> {
         ensures value { held result ≡ [] }
     {
         Queue {
-            items: [blank; 16],
+            items: [blank; MOST_ITEMS],
             count: 0,
         }
     }
@@ -32,11 +29,10 @@ impl<T: Copy> Queue<T> {
         ensures after { held self.new ≡ (if is_ok result then held self.old ++ item ∷ [] else held self.old) }
         ensures same { is_err result ≡ true → self.new ≡ self.old }
     {
-        if self.count >= MOST_ITEMS {
+        if self.len() >= MOST_ITEMS {
             return Err(item);
         }
-        let end = usize::from(self.count);
-        self.items[end] = item;
+        self.items[self.len()] = item;
         self.count += 1;
         Ok(())
     }
@@ -51,7 +47,7 @@ impl<T: Copy> Queue<T> {
             return None;
         }
         let first = self.items[0];
-        self.items.copy_within(1..16, 0);
+        self.items.copy_within(1..MOST_ITEMS, 0);
         self.count -= 1;
         Some(first)
     }

@@ -36,6 +36,7 @@ impl Rows {
     }
 
     // The frames that wait on a lane.
+    // Kept: beside the same of posts, since it tells in the words of lanes what `get` tells of items.
     pub(crate) fn queue(&self, lane: u32) -> Result<Queue<u16>, Fault>
         ensures { MatchResult result (λ q. (lane < length (lanes_of self.now)) × (queue_lane q ≡ wire_lane (lanes_of self.now) lane)) (λ f. (length (lanes_of self.now) ≤ lane) × (f ≡ no_such_lane lane)) }
     {
@@ -54,6 +55,7 @@ impl Rows {
     }
 
     // Has these frames wait on the lane in place of those that did; past the last lane nothing changes.
+    // Kept: beside the same of posts, since it tells in the words of lanes what `set` tells of items.
     pub(crate) fn store(&mut self, lane: u32, queue: Queue<u16>)
         ensures offices { self.new.queues.offices ≡ self.old.queues.offices }
         ensures lanes { lanes_of self.new ≡ slice_set (lanes_of self.old) lane (queue_lane queue) }

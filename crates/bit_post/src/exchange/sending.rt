@@ -12,7 +12,7 @@ use post::LaneTable;
 use wire::Wire;
 
 // The byte, the bit that it is sent with, its lane, and the lane of the same office the other way, on which it is acknowledged.
-// Kept: the wire, the table and the expected bit stay parameters, since the check covers no ghost field beside a `&mut`, and without one each call would require what it does now.
+// Kept: the wire, the table and the expected bit are parameters. A struct that borrows them may have no ghost field, so that each call would require what it does now; one that owned wire and table would have all the clauses about either, and the number of offices too, for the bits beside it.
 #[derive(Clone, Copy)]
 pub(super) struct Sending {
     lane: u32,
@@ -113,6 +113,7 @@ impl Sending {
         empty(wire, self.lane);
         empty(wire, self.back);
         let mut puts = 0;
+        // Kept: a loop that `break` leaves, as the protocol is told.
         'attempts: loop {
             if self.attempt(wire, table, expected, &mut puts) {
                 break;

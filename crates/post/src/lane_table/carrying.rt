@@ -30,6 +30,7 @@ impl LaneTable {
     }
 
     // The slot of a lane.
+    // Kept: beside the same of wires, since it tells in the words of lanes what `get` tells of items.
     fn slot(&self, lane: u32) -> Result<Slot, Fault>
         ensures { MatchResult result (λ s. (lane < length (lanes_of self.now)) × (shown s ≡ lane_at (lanes_of self.now) lane)) (λ f. (length (lanes_of self.now) ≤ lane) × (f ≡ lane_fault NoSuchOfficeOrLane lane)) }
     {
@@ -37,6 +38,7 @@ impl LaneTable {
     }
 
     // Writes the slot of a lane; past the last lane nothing changes.
+    // Kept: beside the same of wires, since it tells in the words of lanes what `set` tells of items. `offices` stands here and in the calls that change a lane, as one equation that a definition would not shorten.
     fn put(&mut self, lane: u32, slot: Slot)
         ensures offices { self.new.slots.offices ≡ self.old.slots.offices }
         ensures lanes { lanes_of self.new ≡ slice_set (lanes_of self.old) lane (shown slot) }

@@ -16,7 +16,7 @@ use std::collections::VecDeque;
 
 impl Marks {
     // The marks that the bytes are, none of them read yet.
-    // Kept: `unwrap_or`, since all bytes were tested before and a second refusal could never come.
+    // Kept: `unwrap_or`. The bytes are tested before, so that a refusal comes before want of memory; `unwrap` would ask for that test here and carry it through the loop.
     pub(crate) fn from_bytes(heap: Global, bytes: &[u8]) -> Result<Marks, Failure>
         requires { length bytes.now ≤ 65535 }
         ensures { MatchResult result (λ m. (marks_left m ≡ map byte_outcome bytes.now) × (m.troubles ≡ costs (map byte_outcome bytes.now))) (λ e. e ≡ NoMemory) }

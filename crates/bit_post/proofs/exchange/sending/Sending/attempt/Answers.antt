@@ -29,10 +29,10 @@ loop-number-preserved-in-Data-1 g c =
     let read : c.try_from.result ≡ Ok (Data s.bit s.byte) = c.try_from.ensures ∙ is in
     let bit : c.in-Ok-Data.bit ≡ s.bit = cc in
     let byte : c.in-Ok-Data.byte ≡ s.byte = cc in (
-      said.same ∙ took.same ∙ c.loop-number.invariant.0,
+      said.same ∙ took.only.same ∙ c.loop-number.invariant.0,
       answering_more s.bit s.lane s.back s.byte _ _ _ _ _
           (w.lanes c.loop-number.wire) (w.lanes c.next.new.wire) (w.lanes c.answer.new.wire) _ _ _ _ c.in-Some.number c.in-Ok-Data.bit c.in-Ok-Data.byte _ _ _ _ (w.ran c.place.new.wire c.loop-number.wire) (w.ran c.next.new.wire c.answer.new.wire) (w.ran c.place.new.wire c.answer.new.wire)
-          bit byte s.apart h took.takes took.others took.calm said.placed (λ xs o a b. goes _ _ _ xs (o ∷ []) a (goes _ _ _ [] (o ∷ []) took.rest b)) said.flips said.delivers,
+          bit byte s.apart h took.takes took.only.others took.only.calm said.placed (λ xs o a b. goes _ _ _ xs (o ∷ []) a (goes _ _ _ [] (o ∷ []) took.only.rest b)) said.flips said.delivers,
     )
 
 pub loop-number-preserved-in-Acknowledgement-1 : goal.loop-number-preserved-in-Acknowledgement-1
@@ -63,7 +63,7 @@ returns-clause-tried g c =
     let first = put.joins ∙ ap (λ l. l.frames ++ copies put.outcome (data_frame s.bit s.byte)) c.requires.clear in
     answering_all s.bit s.lane s.back s.byte _ _ _ _ _
     (w.lanes c.loop-number.wire) (w.lanes c.next.new.wire) _ _ _ _ _ _ _ put.outcome c.drain.result (w.ran c.place.new.wire c.loop-number.wire) (w.ran c.args.wire.now c.drain.new.wire)
-    (λ xs a. goes _ _ _ (put.outcome ∷ []) xs by.run (subst (w.ran c.place.new.wire c.drain.new.wire) (append-nil xs) (goes _ _ _ xs [] a (goes _ _ _ [] [] took.rest said.rest))))
-    s.apart first c.loop-number.invariant.1 took.takes.0 took.others
+    (λ xs a. goes _ _ _ (put.outcome ∷ []) xs by.run (subst (w.ran c.place.new.wire c.drain.new.wire) (append-nil xs) (goes _ _ _ xs [] a (goes _ _ _ [] [] took.only.rest said.only.rest))))
+    s.apart first c.loop-number.invariant.1 took.takes.0 took.only.others
     said.found
-    put.spent (said.calm ∙ took.calm) refl
+    put.spent (said.only.calm ∙ took.only.calm) refl

@@ -8,7 +8,7 @@ pub attempts-init : goal.attempts-init
 attempts-init g c = (
   refl,
   record {
-    there_empty = c.empty-2.ensures.others c.args.self.lane (λ e. c.args.self.apart (sym e)) ∙ c.empty.ensures.empty;
+    there_empty = c.empty-2.ensures.only.others c.args.self.lane (λ e. c.args.self.apart (sym e)) ∙ c.empty.ensures.empty;
     back_empty = c.empty-2.ensures.empty;
     outcomes = [];
     wire_ran = g.met.W.Wire.rests c.empty-2.new.wire;
@@ -44,8 +44,8 @@ pub returns-clause-sent : goal.returns-clause-sent
 returns-clause-sent g c =
     let w = g.W.Wire in
     let s = c.args.self in
-    retry_done s.bit s.lane s.back s.byte _ (w.lanes c.attempts.wire) _ _ _ _ _ _ _ _ _ (w.ran c.empty-2.new.wire c.attempts.wire) (w.ran c.attempts.wire c.attempt.new.wire) (w.ran c.args.wire.now c.attempt.new.wire) (λ xs ys a b. g.met.W.Wire.goes _ _ _ [] (xs ++ ys) (g.met.W.Wire.goes _ _ _ [] [] c.empty.ensures.rest c.empty-2.ensures.rest) (g.met.W.Wire.goes _ _ _ xs ys a b))
-    c.if-attempt.true (c.empty-2.ensures.calm ∙ c.empty.ensures.calm) c.attempts.invariant.1 c.attempt.ensures.tried
+    retry_done s.bit s.lane s.back s.byte _ (w.lanes c.attempts.wire) _ _ _ _ _ _ _ _ _ (w.ran c.empty-2.new.wire c.attempts.wire) (w.ran c.attempts.wire c.attempt.new.wire) (w.ran c.args.wire.now c.attempt.new.wire) (λ xs ys a b. g.met.W.Wire.goes _ _ _ [] (xs ++ ys) (g.met.W.Wire.goes _ _ _ [] [] c.empty.ensures.only.rest c.empty-2.ensures.only.rest) (g.met.W.Wire.goes _ _ _ xs ys a b))
+    c.if-attempt.true (c.empty-2.ensures.only.calm ∙ c.empty.ensures.only.calm) c.attempts.invariant.1 c.attempt.ensures.tried
 
 pub returns-clause-few : goal.returns-clause-few
 returns-clause-few g c = sent_few _ _ _ _ (returns-clause-sent g c) (g.met.W.Wire.sound c.args.wire.now).bounded
