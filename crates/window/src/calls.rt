@@ -10,10 +10,9 @@ ghost use Rattle.window.specs.Turns.{Accepts, admitted};
 ghost use Rattle.window.specs.Windows.{setting_for, setting_of, state_of, books_of, Reached, LawfulBooks, NothingWaits, Kept, index_of, asked};
 
 use crate::Window;
-use crate::faults::window_fault;
 use crate::opening::{open_books, read_setting};
 use crate::place::Place;
-use fault::{Fault, Refusal};
+use fault::{Fault, Layer, Refusal};
 use ladder::Ladder;
 use post::{MessageCount, Post, is_unused, message_count};
 
@@ -41,7 +40,7 @@ impl<P: Post> Window<P> {
         ensures { index_of result ≡ asked office self.now.checked.books (office - 1) }
     {
         if !(1..=self.checked.books.setting.offices).contains(&office) {
-            return Err(window_fault(Refusal::NoSuchOfficeOrLane, office));
+            return Err(Layer::Window.fault(Refusal::NoSuchOfficeOrLane, office as usize));
         }
         Ok(Place { index: office - 1 })
     }
@@ -51,11 +50,11 @@ impl<P: Post> Window<P> {
         ensures { index_of result ≡ admitted self.now.used office self.now.checked.books }
     {
         if self.used {
-            return Err(window_fault(Refusal::PostUsed, 0));
+            return Err(Layer::Window.fault(Refusal::PostUsed, 0));
         }
         let place = self.place_of(office)?;
         if self.checked.books.coordinator.phase.is_closed() {
-            return Err(window_fault(Refusal::WindowClosed, office));
+            return Err(Layer::Window.fault(Refusal::WindowClosed, office as usize));
         }
         Ok(place)
     }

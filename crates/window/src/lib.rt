@@ -5,7 +5,6 @@ mod books;
 mod calls;
 mod checked_books;
 mod comparing;
-mod faults;
 mod message;
 mod opening;
 mod place;
