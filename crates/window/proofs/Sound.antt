@@ -37,9 +37,9 @@ pub record Record-law (t : SettingTable) (h : Coordinator) (o : OfficeRecord) : 
   pub left : o.remainder < slack t o.step
   pub paid : Paid t h o
 
--- a slack of step j in the credit of office i, and the coordinator's record
-abbrev pub credited_at : Books → ℕ → ℕ → Coordinator → Books
-credited_at b i j h = record { setting = b.setting; coordinator = h; table = set b.table i (record { step = (office b i).step; credit = (office b i).credit + slack b.setting j; remainder = (office b i).remainder }) }
+-- the books with another record of the coordinator
+abbrev pub with_coordinator : Books → Coordinator → Books
+with_coordinator b h = record { setting = b.setting; coordinator = h; table = b.table }
 
 -- the coordinator's record gained a slack at least
 unfoldable pub Gained : SettingTable → Coordinator → Coordinator → Type 0

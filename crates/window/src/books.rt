@@ -1,4 +1,8 @@
 // What a window writes down: the coordinator's record and the table of the offices' records.
+ghost use Rattle.std.specs.Prelude.{◌≡◌, ◌+◌, ◌^◌, ◌<◌, ◌≤◌};
+ghost use Rattle.window.specs.Parts.{step_in, is_closed, slack, office, in_coordinator};
+
+use crate::place::Place;
 use crate::setting_table::SettingTable;
 
 // The step at which the coordinator is, with the window open or closed.
@@ -9,9 +13,6 @@ pub enum Phase {
 }
 
 impl Phase {
-    ghost use Rattle.std.specs.Prelude.{◌≡◌};
-    ghost use Rattle.window.specs.Parts.{step_in, is_closed};
-
     pub fn step(self) -> u32
         ensures { result ≡ step_in self }
     {
@@ -47,4 +48,16 @@ pub struct Books {
     pub coordinator: Coordinator,
     // Kept: a fixed table, since a lot may not want memory.
     pub table: [OfficeRecord; 64],
+}
+
+impl Books {
+    // The office at the place is credited with a slack of the coordinator's step.
+    pub fn credit_slack(&mut self, place: Place)
+        requires to { step_in self.old.coordinator.phase ≤ self.old.setting.steps }
+        requires fits { (office self.old place.index).credit + slack self.old.setting (step_in self.old.coordinator.phase) < 2 ^ 32 }
+        ensures { self.new ≡ in_coordinator self.old place.index self.old.coordinator }
+    {
+        let slack = self.setting.slack(self.coordinator.phase.step());
+        self.table[place.index as usize].credit += slack;
+    }
 }

@@ -41,8 +41,8 @@ impl CheckedBooks {
     fn one_more_is_full(&self) -> bool
         ensures { result ≡ (self.now.books.coordinator.signals + 1 == quota self.now.books.setting (step_in self.now.books.coordinator.phase)) }
     {
-        let step = self.books.coordinator.phase.step() as usize;
-        let divisor = self.books.setting.slacks[step - 1] / self.books.setting.slacks[step];
+        let step = self.books.coordinator.phase.step();
+        let divisor = self.books.setting.slack(step - 1) / self.books.setting.slack(step);
         self.books.coordinator.signals + 1 == self.books.setting.offices * (divisor - 1)
     }
 
@@ -52,9 +52,7 @@ impl CheckedBooks {
         requires more { (self.old.books.coordinator.signals + 1 == quota self.old.books.setting (step_in self.old.books.coordinator.phase)) ≡ false }
         ensures { heard_of self.new.books None ≡ signalled place.index self.old.books }
     {
-        let step = self.books.coordinator.phase.step();
-        let office = &mut self.books.table[place.index as usize];
-        office.credit += self.books.setting.slacks[step as usize];
+        self.books.credit_slack(place);
         self.books.coordinator.signals += 1;
     }
 
@@ -66,8 +64,7 @@ impl CheckedBooks {
         ensures fits { byte_of result < 2 ^ 8 }
     {
         let step = self.books.coordinator.phase.step();
-        let office = &mut self.books.table[place.index as usize];
-        office.credit += self.books.setting.slacks[step as usize];
+        self.books.credit_slack(place);
         if step < self.books.setting.steps {
             self.books.coordinator = Coordinator {
                 phase: Phase::Open(step + 1),
@@ -103,8 +100,8 @@ impl CheckedBooks {
         requires { (office self.old.books place.index).step < self.old.books.setting.steps }
         ensures { followed_of self.new.books result ≡ moved place.index self.old.books }
     {
+        let slack = self.books.setting.slack(self.record(place).step + 1);
         let office = &mut self.books.table[place.index as usize];
-        let slack = self.books.setting.slacks[office.step as usize + 1];
         let count = office.remainder / slack;
         office.step += 1;
         office.remainder %= slack;
@@ -128,8 +125,8 @@ impl CheckedBooks {
         ensures due { result ≡ due place.index self.old.books }
         ensures counted { self.new.books ≡ counted place.index self.old.books }
     {
+        let slack = self.books.setting.slack(self.record(place).step);
         let office = &mut self.books.table[place.index as usize];
-        let slack = self.books.setting.slacks[office.step as usize];
         let full = office.remainder + 1 == slack;
         office.remainder = if full { 0 } else { office.remainder + 1 };
         full

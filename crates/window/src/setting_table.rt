@@ -18,3 +18,13 @@ pub struct SettingTable {
     ghost low: { (j : ℕ) → 1 ≤ j → j ≤ steps → 2 ≤ slice_index slacks (j - 1) / slice_index slacks j },
     ghost high: { (j : ℕ) → 1 ≤ j → j ≤ steps → slice_index slacks (j - 1) / slice_index slacks j ≤ 16 },
 }
+
+impl SettingTable {
+    // The slack of a step.
+    pub fn slack(&self, step: u32) -> u32
+        requires { step ≤ self.now.steps }
+        ensures { result ≡ slice_index self.now.slacks step }
+    {
+        self.slacks[step as usize]
+    }
+}
