@@ -81,8 +81,8 @@ pub record LawfulBooks (l : Setting) (lots : List ℕ) (answers : List Answer) (
 abbrev pub NothingWaits : List Lane → Type 0
 NothingWaits lanes = (i : ℕ) → length (lane lanes i).waiting ≡ 0
 
--- What a question about office n answers, where v is the figure asked for.
-abbrev pub asked : ℕ → Books → ℕ → Result ℕ Fault
+-- What a question about office n answers, where v is what was asked for.
+abbrev pub asked : {A : Type 0} → ℕ → Books → A → Result A Fault
 asked n b v = cond (n == 0 || nat_lt b.setting.offices n) (Err (fault InWindow NoSuchOfficeOrLane n)) (Ok v)
 
 -- The place that an answer names, by its number.

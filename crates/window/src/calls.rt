@@ -6,10 +6,12 @@ ghost use Rattle.post.specs.Lanes.{Unused};
 ghost use Rattle.post.specs.Outs.{out};
 ghost use Rattle.rules.specs.Runs.{Answer};
 ghost use Rattle.window.specs.Opening.{opened};
+ghost use Rattle.window.specs.Parts.{office as office_at};
 ghost use Rattle.window.specs.Turns.{Accepts, admitted};
 ghost use Rattle.window.specs.Windows.{setting_for, setting_of, state_of, books_of, Reached, LawfulBooks, NothingWaits, Kept, index_of, asked};
 
 use crate::Window;
+use crate::books::OfficeRecord;
 use crate::opening::{open_books, read_setting};
 use crate::place::Place;
 use fault::{Fault, Layer, Refusal};
@@ -118,18 +120,24 @@ impl<P: Post> Window<P> {
         message_count(&self.post)
     }
 
+    // The record of an office.
+    fn record_of(&self, office: u32) -> Result<OfficeRecord, Fault>
+        ensures { result ≡ asked office self.now.checked.books (office_at self.now.checked.books (office - 1)) }
+    {
+        let place = self.place_of(office)?;
+        Ok(self.checked.record(place))
+    }
+
     pub fn credit(&self, office: u32) -> Result<u32, Fault>
         ensures { result ≡ asked office self.now.checked.books (slice_index (books_of P.Post.lanes self.now).credits (office - 1)) }
     {
-        let place = self.place_of(office)?;
-        Ok(self.checked.record(place).credit)
+        Ok(self.record_of(office)?.credit)
     }
 
     pub fn remainder(&self, office: u32) -> Result<u32, Fault>
         ensures { result ≡ asked office self.now.checked.books (slice_index (books_of P.Post.lanes self.now).remainders (office - 1)) }
     {
-        let place = self.place_of(office)?;
-        Ok(self.checked.record(place).remainder)
+        Ok(self.record_of(office)?.remainder)
     }
 
     pub fn post(&self) -> &P
