@@ -4,6 +4,7 @@ ghost use Rattle.window.specs.Parts.{step_in, is_closed, slack, office, in_coord
 
 use crate::place::Place;
 use crate::setting_table::SettingTable;
+use offices::OfficeCount;
 
 // The step at which the coordinator is, with the window open or closed.
 #[derive(Clone, Copy, PartialEq, Eq)]
@@ -41,13 +42,16 @@ pub struct OfficeRecord {
     pub remainder: u32,
 }
 
+// The most offices that there are.
+pub const MOST_OFFICES: usize = OfficeCount::MOST as usize;
+
 // The records of the offices stand at the places from 0 on, office 1 first.
 #[derive(Clone, Copy)]
 pub struct Books {
     pub setting: SettingTable,
     pub coordinator: Coordinator,
     // Kept: a fixed table, since a lot may not want memory.
-    pub table: [OfficeRecord; 64],
+    pub table: [OfficeRecord; MOST_OFFICES],
 }
 
 impl Books {

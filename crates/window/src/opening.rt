@@ -3,7 +3,7 @@ ghost use Rattle.std.specs.Prelude.{◌≡◌, ℕ, ◌≤◌};
 ghost use Rattle.window.specs.Parts.{slack as slack_of};
 ghost use Rattle.window.specs.Opening.{opened};
 
-use crate::books::{Books, Coordinator, OfficeRecord, Phase};
+use crate::books::{Books, Coordinator, MOST_OFFICES, OfficeRecord, Phase};
 use crate::checked_books::CheckedBooks;
 use crate::setting_table::SettingTable;
 use ladder::Ladder;
@@ -38,7 +38,7 @@ pub fn open_books(setting: SettingTable) -> CheckedBooks
                 phase: Phase::Open(1),
                 signals: 0,
             },
-            table: [record; 64],
+            table: [record; MOST_OFFICES],
         },
     }
 }

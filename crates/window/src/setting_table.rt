@@ -1,13 +1,18 @@
 // The number of offices and the slacks of the ladder, as a window keeps them.
 ghost use Rattle.std.specs.Prelude.{◌≡◌, ℕ, ◌-◌, ◌*◌, ◌/◌, ◌≤◌, slice_index};
 
+use ladder::MOST_STEPS;
+
+// Step 0 and each step of a ladder have a slack.
+const MOST_SLACKS: usize = MOST_STEPS + 1;
+
 #[derive(Clone, Copy)]
 pub struct SettingTable {
     // Kept: a plain number of offices, since the definitions of the window name it as the rules do and `OfficeCount` would stand between.
     pub offices: u32,
     pub steps: u32,
     // Kept: a fixed table, since opening a window may not want memory.
-    pub slacks: [u32; 17],
+    pub slacks: [u32; MOST_SLACKS],
     ghost some: { 1 ≤ offices },
     ghost few: { offices ≤ 64 },
     ghost least: { 1 ≤ steps },
