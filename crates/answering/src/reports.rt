@@ -47,6 +47,7 @@ fn report_bit<L: Ladder + Drop>(
 }
 
 // The day on a ladder, over the post that the terms name.
+// Kept: the terms and the day as two parameters, since the contract speaks of each apart and a struct of both would be taken apart at once.
 fn report_on<L: Ladder + Drop>(
     heap: Global,
     terms: &Terms,
@@ -62,6 +63,7 @@ fn report_on<L: Ladder + Drop>(
 }
 
 // The report of a day under its terms, or a fault if a number is out of its range.
+// Kept: the terms and the day as two parameters, since the contract speaks of each apart and a struct of both would be taken apart at once.
 pub fn day_report(heap: Global, terms: &Terms, day: &Day<'_>) -> Result<Report, Failure>
     ensures { Reported (terms_model terms.now) (day_model day.now) result }
 {

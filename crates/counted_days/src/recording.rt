@@ -54,6 +54,7 @@ impl<P: Post> Post for RecordingPost<P> {
     // A refused send is not noted.
     fn send(&mut self, lane: u32, byte: u8) -> Result<(), Fault> {
         self.inner.send(lane, byte)?;
+        // This post stands in tests alone and so may want memory, which the posts of the program may not.
         let _noted = self.sends.push((lane, byte));
         Ok(())
     }

@@ -57,6 +57,7 @@ impl CheckedBooks {
     }
 
     // The signal that finishes the step: below the last step the next one starts, at the last the window closes. Gives the message that all offices are told.
+    // Kept: `fits` stands beside `did`, since a step with a bound of its own would put a proof into the definition of what a byte says.
     fn finish_step(&mut self, place: Place) -> Message
         requires going { is_closed self.old.books.coordinator.phase ≡ false }
         requires full { (self.old.books.coordinator.signals + 1 == quota self.old.books.setting (step_in self.old.books.coordinator.phase)) ≡ true }
@@ -78,6 +79,7 @@ impl CheckedBooks {
     }
 
     // The coordinator hears a message from the office at the place, and gives what it then tells all offices, if anything.
+    // Kept: `fits` stands beside `did`, since a step with a bound of its own would put a proof into the definition of what a byte says.
     pub fn hear(&mut self, place: Place, message: Option<Message>) -> Option<Message>
         ensures did { heard_of self.new.books result ≡ heard place.index message self.old.books }
         ensures fits { IfSome result (λ m. byte_of m < 2 ^ 8) }

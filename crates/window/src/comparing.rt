@@ -11,6 +11,7 @@ use crate::books::OfficeRecord;
 use post::Post;
 
 // Whether equally many offices have equal credits and remainders.
+// Kept: field by field and no derive, since an office's step is no figure of the books and is left out.
 fn same_figures(first: &[OfficeRecord], second: &[OfficeRecord]) -> bool
     requires { length first.now ≡ length second.now }
     ensures { Decides result ((i : ℕ) → i < length first.now → SameFigures (slice_index_or first.now i no_office) (slice_index_or second.now i no_office)) }

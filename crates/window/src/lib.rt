@@ -22,5 +22,6 @@ use post::Post;
 pub struct Window<P: Post> {
     post: P,
     checked: CheckedBooks,
+    // Kept: a plain `bool`, since whether the post was used before is all that it says, and the clauses `unused` and `used` name it.
     used: bool,
 }
