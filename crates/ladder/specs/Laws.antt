@@ -1,5 +1,5 @@
 -- What a ladder is, what it answers, and when two ladders are the same. Assumes nothing.
-use Rattle.std.specs.Prelude.{◌≡◌, ℕ, ◌+◌, ◌*◌, ◌^◌, ◌<◌, ◌≤◌, cond, Ok, Err, Result, nat_le}
+use Rattle.std.specs.Prelude.{◌≡◌, ℕ, ◌+◌, ◌*◌, ◌^◌, ◌<◌, ◌≤◌, cond, Some, None, Option, Ok, Err, Result, nat_le}
 use Rattle.fault.specs.Faults.{fault}
 use Rattle.fault.specs.declared.Fault.{Fault}
 use Rattle.fault.specs.declared.Layer.TheVariants.{Ladder}
@@ -23,6 +23,10 @@ pub record LadderLaw (steps : ℕ) (slack : ℕ → ℕ) : Type 0 where
 -- A step past the last is a fault at the step that was asked for.
 abbrev pub no_such_step : ℕ → Fault
 no_such_step step = fault Ladder NoSuchStep step
+
+-- The fault that a step is refused with, or none.
+abbrev pub step_fault : (steps step : ℕ) → Option Fault
+step_fault steps step = cond (nat_le step steps) None (Some (no_such_step step))
 
 -- What a ladder answers when it is asked for the slack of any step number.
 abbrev pub slack_answer : (steps : ℕ) (slack : ℕ → ℕ) (step : ℕ) → Result ℕ Fault

@@ -8,6 +8,14 @@ use Rattle.fault.specs.declared.Refusal.TheVariants.{OutOfRange}
 abbrev pub within : (low high n : ℕ) → Bool
 within low high n = nat_le low n && nat_le n high
 
+-- The number of steps that a halving ladder over a grain may have: it and the top are in range.
+abbrev pub halving_fits : (grain steps : ℕ) → Bool
+halving_fits grain steps = within 1 16 steps && nat_le (grain * 2 ^ steps) 16777216
+
+-- One more divisor that may follow where the grain times those before it is whole: it and the top are in range.
+abbrev pub divisor_fits : (whole divisor : ℕ) → Bool
+divisor_fits whole divisor = within 2 16 divisor && nat_le (whole * divisor) 16777216
+
 -- A number outside its range is a fault at that number itself.
 abbrev pub out_of_range : ℕ → Fault
 out_of_range n = fault Ladder OutOfRange n

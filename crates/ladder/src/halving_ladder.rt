@@ -6,9 +6,10 @@ ghost use Rattle.ladder.specs.Slacks.{halving_slack};
 ghost use Rattle.ladder.specs.Halves.{halving_law};
 
 use crate::Ladder;
-use crate::ranges::{LARGEST_TOP, check_size, no_such_step, out_of_range};
-use fault::Fault;
+use crate::ranges::{check_grain, check_step, halving_fits};
+use fault::{Fault, Layer, Refusal};
 
+// Kept: a plain grain and number of steps with their bounds, since the definitions of both ladders name the plain numbers and a struct would stand between.
 #[derive(Clone, Copy, Debug)]
 pub struct Halving {
     grain: u32,
@@ -25,9 +26,9 @@ impl Halving {
         ensures fault { result_err result ≡ halving_fault grain steps }
         ensures ladder { IfOk result (λ l. (l.grain ≡ grain) × (l.steps ≡ steps)) }
     {
-        check_size(grain, steps as usize)?;
-        if u64::from(grain) << steps > u64::from(LARGEST_TOP) {
-            return Err(out_of_range(steps as usize));
+        check_grain(grain)?;
+        if !halving_fits(grain, steps) {
+            return Err(Layer::Ladder.fault(Refusal::OutOfRange, steps as usize));
         }
         Ok(Halving { grain, steps })
     }
@@ -45,9 +46,7 @@ impl Ladder for Halving {
     }
 
     fn slack_of(&self, step: u32) -> Result<u32, Fault> {
-        if step > self.steps {
-            return Err(no_such_step(step));
-        }
+        check_step(self.steps, step)?;
         Ok(self.grain << (self.steps - step))
     }
 }

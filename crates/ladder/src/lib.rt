@@ -14,7 +14,7 @@ mod tests;
 use fault::Fault;
 pub use halving_ladder::Halving;
 pub use listed_ladder::Listed;
-pub use ranges::{LARGEST_DIVISOR, LARGEST_GRAIN, LARGEST_TOP, MOST_STEPS};
+pub use ranges::{LARGEST_GRAIN, MOST_STEPS, divisor_fits, halving_fits};
 pub use same::same_ladder;
 
 // Slack 0 is the top, and the slack of the last step is the grain.

@@ -6,16 +6,17 @@ ghost use Rattle.ladder.specs.Slacks.{product, listed_slack};
 ghost use Rattle.ladder.specs.Products.{listed_law};
 
 use crate::Ladder;
-use crate::ranges::{LARGEST_DIVISOR, LARGEST_TOP, check_size, no_such_step, out_of_range};
-use fault::Fault;
+use crate::ranges::{MOST_STEPS, check_grain, check_step, divisor_fits, is_step_count};
+use fault::{Fault, Layer, Refusal};
 
 // The first `steps` places of the table are in use.
 // Kept: a fixed table with its count, since making a ladder may not want memory and a ladder is copied.
+// Kept: a plain grain and number of steps with their bounds, since the definitions of both ladders name the plain numbers and a struct would stand between.
 #[derive(Clone, Copy, Debug)]
 pub struct Listed {
     grain: u32,
     steps: u32,
-    table: [u32; 16],
+    table: [u32; MOST_STEPS],
     ghost some: { 1 ≤ steps },
     ghost few: { steps ≤ 16 },
     ghost least: { 1 ≤ grain },
@@ -32,13 +33,10 @@ fn check_divisors(grain: u32, divisors: &[u32]) -> Result<(), Fault>
     let mut top = grain;
     for divisor in divisors {
         let divisor = *divisor;
-        if !(2..=LARGEST_DIVISOR).contains(&divisor) {
-            return Err(out_of_range(divisor as usize));
+        if !divisor_fits(top, divisor) {
+            return Err(Layer::Ladder.fault(Refusal::OutOfRange, divisor as usize));
         }
         top *= divisor;
-        if top > LARGEST_TOP {
-            return Err(out_of_range(divisor as usize));
-        }
     }
     Ok(())
 }
@@ -63,7 +61,10 @@ impl Listed {
         ensures fault { result_err result ≡ listed_fault grain divisors.now }
         ensures ladder { IfOk result (λ l. (l.grain ≡ grain) × (l.steps ≡ length divisors.now) × (take l.steps l.table ≡ divisors.now)) }
     {
-        check_size(grain, divisors.len())?;
+        check_grain(grain)?;
+        if !is_step_count(divisors.len()) {
+            return Err(Layer::Ladder.fault(Refusal::OutOfRange, divisors.len()));
+        }
         check_divisors(grain, divisors)?;
         Ok(Listed::of_checked(grain, divisors))
     }
@@ -73,7 +74,7 @@ impl Listed {
         requires { listed_fault grain divisors.now ≡ None }
         ensures { (result.grain ≡ grain) × (result.steps ≡ length divisors.now) × (take result.steps result.table ≡ divisors.now) }
     {
-        let mut table = [0; 16];
+        let mut table = [0; MOST_STEPS];
         table[0..divisors.len()].copy_from_slice(divisors);
         Listed {
             grain,
@@ -95,9 +96,7 @@ impl Ladder for Listed {
     }
 
     fn slack_of(&self, step: u32) -> Result<u32, Fault> {
-        if step > self.steps {
-            return Err(no_such_step(step));
-        }
+        check_step(self.steps, step)?;
         Ok(product_from(self.grain, &self.table[step as usize..self.steps as usize]))
     }
 }

@@ -1,8 +1,8 @@
-// The ranges of the numbers that a ladder is made of, and the faults of the layer.
+// The ranges of the numbers that a ladder is made of, and the tests of them.
 ghost use Rattle.std.specs.Prelude.{◌≡◌, None};
 ghost use Rattle.std.specs.Result.{result_err};
-ghost use Rattle.ladder.specs.Laws.{no_such_step};
-ghost use Rattle.ladder.specs.Makers.{out_of_range, size_fault};
+ghost use Rattle.ladder.specs.Laws.{step_fault};
+ghost use Rattle.ladder.specs.Makers.{within, tested, halving_fits, divisor_fits};
 
 use fault::{Fault, Layer, Refusal};
 
@@ -14,36 +14,43 @@ pub const LARGEST_TOP: u32 = 16_777_216;
 
 pub const LARGEST_DIVISOR: u32 = 16;
 
-// Kept: two functions for two faults, since each names its refusal once and takes the number as its callers have it.
-pub fn out_of_range(number: usize) -> Fault
-    ensures { result ≡ out_of_range number }
+// Whether a ladder may have so many steps.
+pub fn is_step_count(steps: usize) -> bool
+    ensures { result ≡ within 1 16 steps }
 {
-    Fault {
-        layer: Layer::Ladder,
-        refusal: Refusal::OutOfRange,
-        place: number,
-    }
+    (1..=MOST_STEPS).contains(&steps)
 }
 
-pub fn no_such_step(step: u32) -> Fault
-    ensures { result ≡ no_such_step step }
+// Whether a halving ladder over `grain` may have so many steps: their number and the top are in range.
+pub fn halving_fits(grain: u32, steps: u32) -> bool
+    ensures { result ≡ halving_fits grain steps }
 {
-    Fault {
-        layer: Layer::Ladder,
-        refusal: Refusal::NoSuchStep,
-        place: step as usize,
-    }
+    is_step_count(steps as usize) && u64::from(grain) << steps <= u64::from(LARGEST_TOP)
 }
 
-// Tests the grain, and then the number of steps.
-pub fn check_size(grain: u32, steps: usize) -> Result<(), Fault>
-    ensures { result_err result ≡ size_fault grain steps None }
+// Whether a divisor may follow where the grain times those before it is `whole`: it and the top are in range.
+pub fn divisor_fits(whole: u32, divisor: u32) -> bool
+    ensures { result ≡ divisor_fits whole divisor }
+{
+    (2..=LARGEST_DIVISOR).contains(&divisor) && whole.saturating_mul(divisor) <= LARGEST_TOP
+}
+
+// Refuses a grain out of its range.
+pub fn check_grain(grain: u32) -> Result<(), Fault>
+    ensures { result_err result ≡ tested (within 1 8388608 grain) grain None }
 {
     if !(1..=LARGEST_GRAIN).contains(&grain) {
-        return Err(out_of_range(grain as usize));
+        return Err(Layer::Ladder.fault(Refusal::OutOfRange, grain as usize));
     }
-    if !(1..=MOST_STEPS).contains(&steps) {
-        return Err(out_of_range(steps));
+    Ok(())
+}
+
+// Refuses a step past the last of `steps`.
+pub fn check_step(steps: u32, step: u32) -> Result<(), Fault>
+    ensures { result_err result ≡ step_fault steps step }
+{
+    if step > steps {
+        return Err(Layer::Ladder.fault(Refusal::NoSuchStep, step as usize));
     }
     Ok(())
 }

@@ -1,4 +1,5 @@
 use Rattle.std.proofs.Common.{◌≤◌, arith}
+use Rattle.std.proofs.lemmas.Bool.Decides.{nat_tests}
 use Rattle.ladder.specs.Products.{part_fits, part_positive, part_answered}
 use Rattle.ladder.proofs.listed_ladder.ListedLadder.slack_of.Goals as goal
 
@@ -13,5 +14,5 @@ product_from-requires c =
 pub returns : goal.returns
 returns c =
     let l = c.args.self.now in
-    let here : c.args.step ≤ l.steps = omega arith in
+    let here : c.args.step ≤ l.steps = grind (arith, nat_tests) in
     part_answered l.grain l.steps l.table l.top l.low c.args.step c.product_from.result c.product_from.ensures here
