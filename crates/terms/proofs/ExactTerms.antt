@@ -9,13 +9,14 @@ use Rattle.fault.specs.declared.Layer.TheVariants.{Terms as InTerms}
 use Rattle.fault.specs.declared.Refusal.TheVariants.{OutOfRange}
 use Rattle.reader.specs.declared.byte_kind.ByteKind.TheVariants.{Digit}
 use Rattle.reader.specs.Bytes.{run}
+use Rattle.ladder.specs.Makers.{halving_fits, divisor_fits}
 use Rattle.ladder.specs.Slacks.{product}
 use Rattle.reader.specs.Readings.{Reading, begins_at, end_text, number_if, number_in, line_of}
 use Rattle.reader.proofs.Exact.{bind_inv, bind_on, ok_same, cond_inv, past, begins_sound, begins_full, number_sound, number_full, line_sound, line_full, end_text_sound, end_text_full}
 use Rattle.terms.specs.declared.model.PostChoice.{PostChoice}
 use Rattle.terms.specs.declared.model.PostChoice.TheVariants.{Direct, Bit}
 use Rattle.terms.specs.Models.{LadderModel, halving, listed, TermsModel}
-use Rattle.terms.specs.TermsText.{most_top, steps_allowed, divisor_allowed, divisors, ladder, post, terms, read_terms}
+use Rattle.terms.specs.TermsText.{most_top, divisors, ladder, post, terms, read_terms}
 use Rattle.reader.specs.Words.{offices_key, grain_key, ladder_key, post_key, halving_word, listed_word, direct_word, bit_word}
 use Rattle.reader.specs.Lists.{commas}
 use Rattle.reader.specs.Readings.{line}
@@ -32,19 +33,19 @@ Small d = (2 ≤ d) × (d ≤ 16)
 
 module _ (g : ℕ) where
   abbrev item : List ℕ → Reading ℕ
-  item before = number_if (divisor_allowed (g * product before)) OutOfRange
+  item before = number_if (divisor_fits (g * product before)) OutOfRange
 
   abbrev Allowed : List ℕ → ℕ → Type 0
   Allowed before d = Small d × ((g * product before) * d ≤ most_top)
 
-  allowed_tells : (before : List ℕ) (d : ℕ) → divisor_allowed (g * product before) d ≡ true → Allowed before d
+  allowed_tells : (before : List ℕ) (d : ℕ) → divisor_fits (g * product before) d ≡ true → Allowed before d
   allowed_tells before d e = let h = three _ _ _ e in ((leb-true _ _ h.0, leb-true _ _ h.1), leb-true _ _ h.2)
 
-  allowed_from : (before : List ℕ) (d : ℕ) → Allowed before d → divisor_allowed (g * product before) d ≡ true
+  allowed_from : (before : List ℕ) (d : ℕ) → Allowed before d → divisor_fits (g * product before) d ≡ true
   allowed_from before d a = and_from _ _ (and_from _ _ (le-leb _ _ a.0.0) (le-leb _ _ a.0.1)) (le-leb _ _ a.1)
 
   item_sound : (l : Layer) (t before : List ℕ) (p : ℕ) (x : ℕ × ℕ) → item before l t p ≡ Ok x → (drop p t ≡ decimal x.0 ++ drop x.1 t) × Allowed before x.0
-  item_sound l t before p x e = let h = number_sound (divisor_allowed (g * product before)) OutOfRange l t p x e in (h.0, allowed_tells before x.0 h.1)
+  item_sound l t before p x e = let h = number_sound (divisor_fits (g * product before)) OutOfRange l t p x e in (h.0, allowed_tells before x.0 h.1)
 
   -- each divisor in turn, and all of them together
   whole_push : (before : List ℕ) (d : ℕ) → (g * product before) * d ≡ g * product (before ++ d ∷ [])
@@ -74,9 +75,9 @@ module _ (g : ℕ) where
 
   -- the ladder
   module _ (l : Layer) (t : List ℕ) where
-    steps_sound : (p : ℕ) (x : ℕ × ℕ) → number_if (steps_allowed g) OutOfRange l t p ≡ Ok x → (drop p t ≡ decimal x.0 ++ drop x.1 t) × LadderInRange g (halving x.0)
+    steps_sound : (p : ℕ) (x : ℕ × ℕ) → number_if (halving_fits g) OutOfRange l t p ≡ Ok x → (drop p t ≡ decimal x.0 ++ drop x.1 t) × LadderInRange g (halving x.0)
     steps_sound p x e =
-        let h = number_sound (steps_allowed g) OutOfRange l t p x e in
+        let h = number_sound (halving_fits g) OutOfRange l t p x e in
         let k = three _ _ _ h.1 in
         (h.0, (leb-true _ _ k.0, leb-true _ _ k.1, leb-true _ _ k.2))
 
@@ -92,7 +93,7 @@ module _ (g : ℕ) where
         let Good : LadderModel × ℕ → Type 0 = λ y. (drop p t ≡ ladder_text y.0 ++ drop y.1 t) × LadderInRange g y.0 in
         ⊎_elim
         (λ b.
-        let a = bind_inv (number_if (steps_allowed g) OutOfRange l t (p + 8)) _ x (sym (cond-true _ _ _ b) ∙ e) in
+        let a = bind_inv (number_if (halving_fits g) OutOfRange l t (p + 8)) _ x (sym (cond-true _ _ _ b) ∙ e) in
         let h = steps_sound (p + 8) a.0 a.1 in
         let s : (halving a.0.0, a.0.1) ≡ x = ok_same a.2 in
         subst Good s (begins_sound t p halving_word b ∙ ap (λ m. halving_word ++ m) h.0, h.1))
@@ -111,12 +112,12 @@ module _ (g : ℕ) where
     ladder_full : (v : LadderModel) (rest : List ℕ) → LadderInRange g v → (p : ℕ) → drop p t ≡ ladder_text v ++ (10 ∷ rest) → (q : ℕ) × (ladder g l t p ≡ Ok (v, q)) × (drop q t ≡ 10 ∷ rest)
     ladder_full (halving e) rest h p d =
         let r1 = past t p halving_word _ d in
-        let ok : steps_allowed g e ≡ true = and_from _ _ (and_from _ _ (le-leb _ _ h.0) (le-leb _ _ h.1)) (le-leb _ _ h.2) in
-        (_, cond-true _ _ _ (begins_full t p halving_word _ d) ∙ bind_on _ (number_full (steps_allowed g) OutOfRange l t (p + 8) e _ r1 refl (omega arith) ok) refl, past t _ (decimal e) _ r1)
+        let ok : halving_fits g e ≡ true = and_from _ _ (and_from _ _ (le-leb _ _ h.0) (le-leb _ _ h.1)) (le-leb _ _ h.2) in
+        (_, cond-true _ _ _ (begins_full t p halving_word _ d) ∙ bind_on _ (number_full (halving_fits g) OutOfRange l t (p + 8) e _ r1 refl (omega arith) ok) refl, past t _ (decimal e) _ r1)
     ladder_full (listed ds) rest h p d =
         let each = each_from l t ds [] h.2 (rw mul-one h.3) in
         let item_full : (before : List ℕ) (p d : ℕ) (rest : List ℕ) → drop p t ≡ decimal d ++ rest → run Digit rest ≡ [] → Allowed before d → item before l t p ≡ Ok (d, p + length (decimal d)) =
-        λ before p d rest e s a. number_full (divisor_allowed (g * product before)) OutOfRange l t p d rest e s (omega (arith, a.0.1)) (allowed_from before d a) in
+        λ before p d rest e s a. number_full (divisor_fits (g * product before)) OutOfRange l t p d rest e s (omega (arith, a.0.1)) (allowed_from before d a) in
         let on = numbers_full item Allowed l t item_full ds 15 (p + 7) [] rest (past t p listed_word _ d) h.0 h.1 each in
         (_, cond-false _ _ _ (ap (λ m. bytes_eq halving_word (take 8 m)) d) ∙ cond-true _ _ _ (begins_full t p listed_word _ d) ∙ bind_on _ on.1 refl, on.2)
 

@@ -1,9 +1,10 @@
 -- The product of a list with one number more, and products that stop at the largest number.
-use Rattle.std.proofs.Common.{◌≡◌, ℕ, zero, suc, ◌*◌, ◌<◌, ◌≤◌, min, true, ◌&&◌, leb, List, [], ◌∷◌, ◌++◌, sym, ap, ◌∙◌, ⊎_elim, mul_assoc, mul-le-mul_left, one-mul, mul-one, arith}
+use Rattle.std.proofs.Common.{◌≡◌, ℕ, zero, suc, ◌*◌, ◌<◌, ◌≤◌, min, ◌&&◌, leb, List, [], ◌∷◌, ◌++◌, sym, ap, ◌∙◌, ⊎_elim, mul_assoc, mul-le-mul_left, one-mul, mul-one, arith}
 use Rattle.std.proofs.Math.Nat.{min-eq_left, min-eq_right}
 use Rattle.std.proofs.lemmas.Bool.{cases_Bool, leb-true, leb-false, lt-leb}
+use Rattle.ladder.specs.Makers.{within, divisor_fits}
 use Rattle.ladder.specs.Slacks.{product}
-use Rattle.terms.specs.TermsText.{most_top, divisor_allowed}
+use Rattle.terms.specs.TermsText.{most_top}
 
 pub product_push : (ds : List ℕ) (d : ℕ) → product (ds ++ d ∷ []) ≡ product ds * d
 product_push [] d = mul-one d ∙ sym (one-mul d)
@@ -38,6 +39,7 @@ capped_top n =
     ap (λ m. leb m most_top) (min-eq_right (omega (arith, past))) ∙ sym (lt-leb n most_top (omega (arith, past))))
     (cases_Bool (leb n largest))
 
-pub capped_allowed : (whole d : ℕ) {w r : ℕ} → (leb 2 d && leb d 16) ≡ true → w ≡ min whole largest → r ≡ min (w * d) largest → leb r most_top ≡ divisor_allowed whole d
-capped_allowed whole d within e f =
-    ap (λ r. leb r most_top) (f ∙ ap (λ w. min (w * d) largest) e ∙ capped whole d) ∙ capped_top (whole * d) ∙ ap (λ b. b && leb (whole * d) most_top) (sym within)
+pub capped_fits : (whole d : ℕ) {w : ℕ} → w ≡ min whole largest → divisor_fits w d ≡ divisor_fits whole d
+capped_fits whole d e =
+    ap (λ b. within 2 16 d && b)
+    (ap (λ w. leb (w * d) most_top) e ∙ sym (capped_top (min whole largest * d)) ∙ ap (λ n. leb n most_top) (capped whole d) ∙ capped_top (whole * d))

@@ -1,9 +1,10 @@
 -- What a text of terms says. Assumes nothing.
-use Rattle.std.specs.Prelude.{ℕ, ◌+◌, ◌*◌, ◌^◌, Bool, cond, ◌&&◌, List, [], length, Ok, Err, Result, nat_le}
+use Rattle.std.specs.Prelude.{ℕ, ◌+◌, ◌*◌, cond, List, [], length, Ok, Err, Result}
 use Rattle.fault.specs.declared.Fault.{Fault}
 use Rattle.fault.specs.declared.Layer.TheVariants.{Terms as InTerms}
 use Rattle.fault.specs.declared.Refusal.TheVariants.{OutOfRange, UnknownWord}
 use Rattle.fault.specs.Faults.{fault}
+use Rattle.ladder.specs.Makers.{halving_fits, divisor_fits}
 use Rattle.ladder.specs.Slacks.{product}
 use Rattle.reader.specs.Readings.{Reading, bind, whole, begins_at, end_text, number_if, number_in, line_of}
 use Rattle.terms.specs.declared.model.PostChoice.{PostChoice}
@@ -16,21 +17,13 @@ use Rattle.reader.specs.Words.{offices_key, grain_key, ladder_key, post_key, hal
 abbrev pub most_top : ℕ
 most_top = 16777216
 
--- a number of steps over a grain
-abbrev pub steps_allowed : ℕ → ℕ → Bool
-steps_allowed grain e = (nat_le 1 e && nat_le e 16) && nat_le (grain * 2 ^ e) most_top
-
--- one more divisor, where the grain and the divisors before it make whole
-abbrev pub divisor_allowed : ℕ → ℕ → Bool
-divisor_allowed whole d = (nat_le 2 d && nat_le d 16) && nat_le (whole * d) most_top
-
 -- one to sixteen divisors
 abbrev pub divisors : ℕ → Reading (List ℕ)
-divisors grain = numbers 15 (λ before. number_if (divisor_allowed (grain * product before)) OutOfRange) []
+divisors grain = numbers 15 (λ before. number_if (divisor_fits (grain * product before)) OutOfRange) []
 
 abbrev pub ladder : ℕ → Reading LadderModel
 ladder grain l t p =
-    cond (begins_at t p halving_word) (bind (number_if (steps_allowed grain) OutOfRange l t (p + length halving_word)) (λ x. Ok (halving x.0, x.1)))
+    cond (begins_at t p halving_word) (bind (number_if (halving_fits grain) OutOfRange l t (p + length halving_word)) (λ x. Ok (halving x.0, x.1)))
     (cond (begins_at t p listed_word) (bind (divisors grain l t (p + length listed_word)) (λ x. Ok (listed x.0, x.1)))
     (Err (fault l UnknownWord p)))
 

@@ -1,41 +1,36 @@
 // The text of the terms.
 ghost use Rattle.std.specs.Prelude.{◌≡◌, ◌*◌, vec_items};
 ghost use Rattle.fault.specs.declared.Refusal.TheVariants.{OutOfRange};
+ghost use Rattle.ladder.specs.Makers.{halving_fits, divisor_fits};
 ghost use Rattle.ladder.specs.Slacks.{product};
 ghost use Rattle.reader.specs.Readings.{number_if};
 ghost use Rattle.reader.specs.Readers.{Answers};
 ghost use Rattle.reader.specs.Answers.{Gives, GivesAt};
 ghost use Rattle.terms.specs.Models.{ladder_model, terms_model};
-ghost use Rattle.terms.specs.TermsText.{steps_allowed, divisor_allowed, divisors as divisors_text, ladder as ladder_text, post as post_text, terms as terms_reading, read_terms};
+ghost use Rattle.terms.specs.TermsText.{divisors as divisors_text, ladder as ladder_text, post as post_text, terms as terms_reading, read_terms};
 
 use crate::{LadderChoice, PostChoice, Terms};
 use fault::{Failure, Fault, Layer, Refusal};
-use ladder::{LARGEST_DIVISOR, LARGEST_GRAIN, LARGEST_TOP, MOST_STEPS};
+use ladder::{LARGEST_GRAIN, MOST_STEPS, divisor_fits, halving_fits};
 use offices::OfficeCount;
 use reader::{Reader, words};
 use std::alloc::Global;
 
 // The number of steps of a halving ladder over `grain`.
 fn steps(reader: &mut Reader<'_>, grain: u32) -> Result<u32, Fault>
-    ensures { Answers (number_if (steps_allowed grain) OutOfRange) reader.old result reader.new }
+    ensures { Answers (number_if (halving_fits grain) OutOfRange) reader.old result reader.new }
 {
-    reader.number_if(
-        |steps| {
-            (1..=MOST_STEPS).contains(&(steps as usize))
-                && u64::from(grain) << steps <= u64::from(LARGEST_TOP)
-        },
-        Refusal::OutOfRange,
-    )
+    reader.number_if(|steps| halving_fits(grain, steps), Refusal::OutOfRange)
 }
 
 // Whether one more divisor may follow those before it, over `grain`.
 fn may_follow(grain: u32, before: &[u32], divisor: u32) -> bool
-    ensures { result ≡ divisor_allowed (grain * product before.now) divisor }
+    ensures { result ≡ divisor_fits (grain * product before.now) divisor }
 {
     let whole = before
         .iter()
         .fold(grain, |whole, divisor| whole.saturating_mul(*divisor));
-    (2..=LARGEST_DIVISOR).contains(&divisor) && whole.saturating_mul(divisor) <= LARGEST_TOP
+    divisor_fits(whole, divisor)
 }
 
 // One to sixteen divisors with commas between.
@@ -51,7 +46,7 @@ fn divisors(heap: Global, reader: &mut Reader<'_>, grain: u32) -> Result<Vec<u32
 }
 
 // The ladder: one of its words, and its numbers.
-// Kept: memory, reader and grain as parameters, since this call and the one above alone take all three.
+// Kept: memory, reader and grain as parameters. Reader and grain go together through `steps`, `divisors` and `ladder`, but each contract tells the reader before and after, and of the grain only its number: a struct of both would be made for one call and taken apart in each of the three.
 fn ladder(heap: Global, reader: &mut Reader<'_>, grain: u32) -> Result<LadderChoice, Failure>
     ensures { GivesAt ladder_model (ladder_text grain) reader.old result reader.new }
 {
