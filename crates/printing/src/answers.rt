@@ -91,6 +91,7 @@ fn push_terms(lines: &mut Lines, terms: &Terms) -> Result<(), AllocError>
 }
 
 // The terms, and how many marks and lots there are.
+// Kept: terms and day as two parameters, since the contract speaks of each apart and a struct of both would be taken apart at once.
 fn summary_text(heap: Global, terms: &Terms, day: &Day<'_>) -> Result<Vec<u8>, AllocError>
     ensures { IfOk result (λ v. v.items ≡ summary_text (terms_model terms.now) (day_model day.now)) }
 {

@@ -1,4 +1,4 @@
-// What a line end is: nothing else in the code knows it.
+// What a line end is for reading: nothing else that reads the two texts knows it. The writer writes line ends of its own, and the table of answers cuts and ends its lines itself.
 ghost use Rattle.std.specs.Prelude.{◌≡◌, ◌+◌, ◌≤◌, length, drop};
 ghost use Rattle.reader.specs.Bytes.{line_end};
 

@@ -1,5 +1,5 @@
 -- Parts of an output, one after another.
-use Rattle.std.proofs.Common.{◌≡◌, ℕ, ◌+◌, ◌<◌, List, [], ◌∷◌, ◌++◌, length, get_or, take, decimal, sym, refl, ap, ◌∙◌, append_assoc, append-nil, arith}
+use Rattle.std.proofs.Common.{◌≡◌, ℕ, ◌+◌, ◌<◌, List, [], ◌∷◌, ◌++◌, length, get_or, take, decimal, sym, refl, ap, ◌∙◌, append_assoc, append-nil, add-one, arith}
 use Rattle.std.proofs.lemmas.List.{take_more, length-take-le}
 use Rattle.reader.specs.Words.{comma}
 use Rattle.reader.specs.Lists.{commas}
@@ -10,12 +10,15 @@ commas_push [] x h = absurd (omega arith)
 commas_push (a ∷ []) x h = refl
 commas_push (a ∷ b ∷ xs) x h = ap (λ l. decimal a ++ (comma ++ l)) (commas_push (b ∷ xs) x (omega arith)) ∙ sym (append_assoc (decimal a) (comma ++ commas (b ∷ xs)) _)
 
--- one turn of a writer: what it held at first, what it holds, the same after a comma, and what it holds then
-pub put_first : (xs : List ℕ) (i : ℕ) (o : List ℕ) {s u : List ℕ} → i < length xs → i ≡ 0 → s ≡ o ++ commas (take i xs) → u ≡ s ++ decimal (get_or xs i 0) → u ≡ o ++ commas (take (i + 1) xs)
-put_first xs i o lt z a b =
-    let e : commas (take (i + 1) xs) ≡ commas (take i xs) ++ decimal (get_or xs i 0) = rw z (ap commas (take_more xs 0 0 (omega arith))) in
-    b ∙ ap (λ l. l ++ decimal (get_or xs i 0)) a ∙ append_assoc o (commas (take i xs)) _ ∙ ap (λ l. o ++ l) (sym e)
+-- the first number of a list with more
+pub put_first : (first : ℕ) (others o : List ℕ) {xs u : List ℕ} → xs ≡ first ∷ others → u ≡ o ++ decimal first → u ≡ o ++ commas (take 1 xs)
+put_first first others o is a = a ∙ ap (λ l. o ++ commas (take 1 l)) (sym is)
 
+-- a place past the first number
+pub after_first : (first : ℕ) (others : List ℕ) (i : ℕ) {xs : List ℕ} → xs ≡ first ∷ others → get_or others i 0 ≡ get_or xs (i + 1) 0
+after_first first others i is = ap (λ n. get_or (first ∷ others) n 0) (sym (add-one i)) ∙ ap (λ l. get_or l (i + 1) 0) (sym is)
+
+-- one turn of a writer: what it held at first, what it holds, the same after a comma, and what it holds then
 pub put_more : (xs : List ℕ) (i : ℕ) (o : List ℕ) {s v u : List ℕ} → i < length xs → 0 < i → s ≡ o ++ commas (take i xs) → v ≡ s ++ comma → u ≡ v ++ decimal (get_or xs i 0) → u ≡ o ++ commas (take (i + 1) xs)
 put_more xs i o lt pos a b c =
     let e : commas (take (i + 1) xs) ≡ commas (take i xs) ++ (comma ++ decimal (get_or xs i 0)) = ap commas (take_more xs i 0 lt) ∙ commas_push (take i xs) _ (omega (arith, length-take-le i xs (omega arith))) in

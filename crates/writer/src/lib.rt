@@ -80,11 +80,13 @@ impl Lines {
     pub fn push_numbers(&mut self, numbers: &[u32]) -> Result<(), AllocError>
         ensures { OnOk result (self.new ≡ self.old ++ commas numbers.now) }
     {
-        for (i, number) in numbers.iter().enumerate() {
-            if i > 0 {
-                self.push(words::COMMA)?;
-            }
-            self.push_number(*number)?;
+        let Some((first, others)) = numbers.split_first() else {
+            return Ok(());
+        };
+        self.push_number(*first)?;
+        for other in others {
+            self.push(words::COMMA)?;
+            self.push_number(*other)?;
         }
         Ok(())
     }

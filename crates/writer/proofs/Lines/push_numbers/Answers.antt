@@ -1,12 +1,22 @@
-use Rattle.std.proofs.Common.{◌∙◌, arith}
-use Rattle.writer.proofs.Joined.{put_first, put_more}
+use Rattle.std.proofs.Common.{◌+◌, ◌++◌, decimal, ap, ◌∙◌, arith}
+use Rattle.std.proofs.lemmas.List.{take_all}
+use Rattle.reader.specs.Lists.{commas}
+use Rattle.writer.proofs.Joined.{put_first, after_first, put_more}
 use Rattle.writer.proofs.Lines.push_numbers.Goals as goal
-use Rattle.writer.proofs.Lines.push_numbers.Goals.{then-i-gt0+in_ok-push, else-i-gt0}
 
-pub loop-i-preserved : goal.loop-i-preserved
-loop-i-preserved c =
-    let before = c.args.self.now in
-    elim c.if-i-gt0.branch [
-      | then-i-gt0+in_ok-push w ↦ put_more c.args.numbers.now c.loop-i.i before c.loop-i-test.true w.if-i-gt0.true c.loop-i.invariant (w.self-is ∙ w.in_ok-push.ensures) c.in_ok-push_number.ensures
-      | else-i-gt0 w ↦ put_first c.args.numbers.now c.loop-i.i before c.loop-i-test.true (omega arith) (w.self-is ∙ c.loop-i.invariant) c.in_ok-push_number.ensures
-    ]
+pub loop-other-init : goal.loop-other-init
+loop-other-init c =
+    put_first c.in-Some.first.now c.in-Some.others.now c.args.self.now c.in-Some.ensures.cases.0 c.in_ok-push_number.ensures
+
+pub loop-other-preserved : goal.loop-other-preserved
+loop-other-preserved c =
+    let i = c.loop-other.other-index in
+    let split = c.in-Some.ensures.cases in
+    let same = after_first c.in-Some.first.now c.in-Some.others.now i split.0 in
+    put_more c.args.numbers.now (i + 1) c.args.self.now (omega (arith, split.1, c.loop-other-test.true)) (omega arith) c.loop-other.invariant c.in_ok-push.ensures
+    (c.in_ok-push_number-2.ensures ∙ ap (λ n. c.push.new.self ++ decimal n) same)
+
+pub returns : goal.returns
+returns c =
+    let whole = take_all (c.loop-other.other-index + 1) c.args.numbers.now (omega (arith, c.in-Some.ensures.cases.1, c.loop-other-test.false)) in
+    c.loop-other.invariant ∙ ap (λ l. c.args.self.now ++ commas l) whole
