@@ -46,7 +46,7 @@ fn divisors(heap: Global, reader: &mut Reader<'_>, grain: u32) -> Result<Vec<u32
 }
 
 // The ladder: one of its words, and its numbers.
-// Kept: memory, reader and grain as parameters. Reader and grain go together through `steps`, `divisors` and `ladder`, but each contract tells the reader before and after, and of the grain only its number: a struct of both would be made for one call and taken apart in each of the three.
+// Kept: memory, reader and grain as parameters: reader and grain go together through `steps`, `divisors` and `ladder`, but a struct of both would be made for one call, and each contract speaks of the reader before and after.
 fn ladder(heap: Global, reader: &mut Reader<'_>, grain: u32) -> Result<LadderChoice, Failure>
     ensures { GivesAt ladder_model (ladder_text grain) reader.old result reader.new }
 {
