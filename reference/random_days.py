@@ -7,8 +7,8 @@ import subprocess
 import sys
 import tempfile
 
+from answers import answer
 from building import below, random_damage, random_day, random_good_pair, source_of
-from summaries import summary
 
 LONGEST_WAIT_SECONDS = 60
 
@@ -62,7 +62,7 @@ def compare(program, count, source):
     with tempfile.TemporaryDirectory() as folder:
         for number in range(1, count + 1):
             pair = random_pair(source)
-            expected = summary(pair[0], pair[1])
+            expected = answer(pair[0], pair[1])
             status, printed = run_program(program, folder, pair[0], pair[1])
             if status == 0 and printed == expected:
                 agreed += 1

@@ -14,7 +14,7 @@ def told_in_short(terms, _, good_day):
 
 
 def summary(terms, day):
-    """Exactly what the program prints for these two texts."""
+    """What the two texts say, or the lines of their first fault."""
     return answer_by(told_in_short, terms, day)
 
 

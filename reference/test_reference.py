@@ -298,7 +298,7 @@ def test_marks_change_only_the_frames():
         assert reports[0] == reports[1] == reports[2]
 
 
-# ---- What the program prints ----
+# ---- What two texts say ----
 
 def test_summary_counts_marks_and_lots():
     expected = b"offices=3\ngrain=1\nladder=halving/2\npost=bit\nmarks=2\nlots=10\n"

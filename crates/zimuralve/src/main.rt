@@ -1,8 +1,8 @@
-// The program: reads terms.txt and day.txt in the current folder, and prints what they say or their first fault.
+// The program: reads terms.txt and day.txt in the current folder, plays the day, and prints its report or the first fault of the texts.
 #![tactic(auto)]
 
+use answering::answer;
 use anyhow::Context;
-use printing::answer;
 use std::io::{ErrorKind, Read, Write};
 use std::process::ExitCode;
 use std::{fs, io};
