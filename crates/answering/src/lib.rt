@@ -4,6 +4,8 @@
 mod answers;
 mod figures;
 mod reports;
+mod streams;
 
 pub use answers::answer;
 pub use reports::day_report;
+pub use streams::{print_answer, read_start};
