@@ -21,11 +21,7 @@ pub fn read_start<R: Read + Drop>(heap: Global, reader: R) -> io::Result<Vec<u8>
 }
 
 // Writes the answer to the terms and the day, and nothing else.
-pub fn print_answer<W: Write>(
-    heap: Global,
-    texts: Texts<'_, '_>,
-    writer: &mut W,
-) -> io::Result<()>
+pub fn print_answer<W: Write>(heap: Global, texts: Texts<'_, '_>, writer: &mut W) -> io::Result<()>
     ensures { OnOk result ((made : List ℕ) × Printed texts.entry.terms.now texts.entry.day.now made × Appends (W.contents writer.old) (W.contents writer.new) made) }
 {
     let made = answer(heap, texts)?;
