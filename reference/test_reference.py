@@ -89,6 +89,37 @@ def test_day_too_long_is_told_before_a_fault_of_the_terms():
     assert answer(b"\n" * 65536, b"\n" * 65536) == expected
 
 
+def told(case_terms, case_day):
+    """The first three lines of a fault, as refusal, layer and place; none for good texts."""
+    lines = answer(case_terms, case_day).split(b"\n")
+    if not lines[0].startswith(b"fault="):
+        return None
+    refusal, layer, place = [line.partition(b"=")[2] for line in lines[:3]]
+    return int(refusal), layer.decode(), int(place)
+
+
+def test_faults_worked_through():
+    high = terms(offices="1", grain="8388608", ladder="halving/1")
+    for case_terms, case_day, expected in [
+            (terms(offices="64"), day(), None),
+            (terms(offices="65"), day(), (11, "terms", 8)),
+            (high, day(lots=""), None),
+            (high.replace(b"halving/1", b"halving/2"), day(lots=""), (11, "terms", 39)),
+            (terms().replace(b"3\n", b"3\r\n"), day(), (9, "terms", 9)),
+            (b"", day(), (9, "terms", 0)),
+            (b"offices=3\ngrain=1\nladder=", day(), (12, "terms", 25)),
+            (terms(ladder="halving/2,3"), day(), (9, "terms", 34)),
+            (terms(ladder="listed/4,"), day(), (10, "terms", 34)),
+            (terms() + b"\n", day(), (14, "terms", 44)),
+            (terms(), b"marks=\nlots=1,0\n", (1, "day", 14)),
+            (terms(offices="7"), b"marks=\nlots=007\n", (10, "day", 12)),
+            (terms(), b"marks=\nlots=", (10, "day", 12)),
+            (terms(), b"marks=..", (9, "day", 8)),
+            (terms(offices="65"), b"x" * 65536, (8, "day", 65535)),
+    ]:
+        assert told(case_terms, case_day) == expected
+
+
 def test_day_without_lots():
     expected = (b"closed=no\nstep=1\nsignals=0\nmessages=0\nframes=0\naccepted=0\nlate=0\n"
                 b"credits=0,0,0\nremainders=0,0,0\n")
@@ -100,6 +131,8 @@ def test_day_without_lots():
 def test_ladders():
     assert halving_ladder(5, 3).slacks == [40, 20, 10, 5]
     assert listed_ladder(5, [3, 2]).slacks == [30, 10, 5]
+    assert listed_ladder(5, [3, 2, 2]).slacks == [60, 20, 10, 5]
+    assert halving_ladder(5, 2).slacks == [20, 10, 5]
     assert [listed_ladder(5, [3, 2]).divisor(step) for step in [1, 2]] == [3, 2]
     assert raises_internal_error(lambda: halving_ladder(1, 2).slack(3))
 
@@ -215,6 +248,15 @@ def test_fifth_worked_day():
         after = played(2, 1, "listed/3,2", lots)
         assert after.closing_lot == 10
         assert after.window.post.message_count() == 10
+
+
+def test_day_of_three_signals_at_a_start():
+    window = played(2, 1, "listed/2,4", [2] * 3 + [1] * 8).window
+    assert window.coordinator.window_is_open
+    assert window.coordinator.step == 2 and window.coordinator.signals == 3
+    assert window.post.message_count() == 7
+    assert window.coordinator.credits == [8, 3]
+    assert remainders(window) == [0, 0]
 
 
 # ---- RULES.md: what follows from the accepted lots alone ----
