@@ -40,7 +40,7 @@ shown s = record {
   remainders = map (λ o. o.remainder) (take s.books.setting.offices s.books.table);
 }
 
--- The state was reached by these lot calls with these answers, from an unused post on, and no other hand touched it: it is what the rules give.
+-- The state was reached by these lot calls with these answers, from an unused post on, with nothing else done to the window or its post: it is what the rules give.
 pub record ReachedBy (lots : List ℕ) (answers : List Answer) (used : Bool) (s : State) : Type 0 where
   pub unused : used ≡ false
   pub after : RulesState

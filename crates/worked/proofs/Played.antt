@@ -21,23 +21,29 @@ comes l law lots rs b e f = record { after = ended l lots; runs = subst (λ rs. 
 halved : (k g e : ℕ) → 1 ≤ k → k ≤ 64 → 1 ≤ e → e ≤ 16 → 1 ≤ g → g * 2 ^ e ≤ 16777216 → SettingLaw (halving k g e)
 halved k g e some few least most grain top = record { some = some; few = few; ladder = halving_law g e least most grain top }
 
-three_two : SettingLaw (listed 2 1 (3 ∷ 2 ∷ []))
-three_two = record {
+two_divisors : (a b : ℕ) → 2 ≤ a → a ≤ 16 → 2 ≤ b → b ≤ 16 → listed_slack 1 (a ∷ b ∷ []) 0 ≤ 16777216 → SettingLaw (listed 2 1 (a ∷ b ∷ []))
+two_divisors a b a_least a_most b_least b_most top = record {
   some = lit≤ tt;
   few = lit≤ tt;
   ladder = record {
     some = lit≤ tt;
     few = lit≤ tt;
     grain = lit≤ tt;
-    top = lit≤ tt;
+    top = top;
     tied = ties;
   };
 }
   where
-    ties : (j : ℕ) → j < 2 → Tied (listed_slack 1 (3 ∷ 2 ∷ []) j) (listed_slack 1 (3 ∷ 2 ∷ []) (j + 1))
-    ties zero less = record { divisor = 3; least = lit≤ tt; most = lit≤ tt; times = refl }
-    ties (suc zero) less = record { divisor = 2; least = lit≤ tt; most = lit≤ tt; times = refl }
+    ties : (j : ℕ) → j < 2 → Tied (listed_slack 1 (a ∷ b ∷ []) j) (listed_slack 1 (a ∷ b ∷ []) (j + 1))
+    ties zero less = record { divisor = a; least = a_least; most = a_most; times = omega arith }
+    ties (suc zero) less = record { divisor = b; least = b_least; most = b_most; times = omega arith }
     ties (suc (suc j)) less = absurd (omega arith)
+
+three_two : SettingLaw (listed 2 1 (3 ∷ 2 ∷ []))
+three_two = two_divisors 3 2 (lit≤ tt) (lit≤ tt) (lit≤ tt) (lit≤ tt) (lit≤ tt)
+
+two_four : SettingLaw (listed 2 1 (2 ∷ 4 ∷ []))
+two_four = two_divisors 2 4 (lit≤ tt) (lit≤ tt) (lit≤ tt) (lit≤ tt) (lit≤ tt)
 
 h₁ : SettingLaw (halving 1 1 1)
 h₁ = halved 1 1 1 (lit≤ tt) (lit≤ tt) (lit≤ tt) (lit≤ tt) (lit≤ tt) (lit≤ tt)
@@ -58,6 +64,7 @@ worked = record {
   three_slacks = comes _ h₃ _ _ _ refl refl;
   nine = comes _ three_two _ _ _ refl refl;
   tenth = comes _ three_two _ _ _ refl refl;
+  three_signals = comes _ two_four _ _ _ refl refl;
   lost_then_twice = record {
     outcomes = lost ∷ twice ∷ once ∷ once ∷ [];
     marked = refl;

@@ -16,6 +16,8 @@ pub record WorkedDaysAndSends : Type 0 where
   -- two offices, listed/3,2, grain 1: open after lot 9, closed by lot 10, with 10 messages
   pub nine : ComesTo (listed 2 1 (3 ∷ 2 ∷ [])) (lots_at 5 1 ++ lots_at 4 2) (all_accepted 9) (book 2 1 true 7 (5 ∷ 4 ∷ []) (0 ∷ 0 ∷ []))
   pub tenth : ComesTo (listed 2 1 (3 ∷ 2 ∷ [])) (lots_at 5 1 ++ lots_at 5 2) (all_accepted 10) (book 2 2 false 10 (5 ∷ 5 ∷ []) (0 ∷ 0 ∷ []))
+  -- two offices, listed/2,4, grain 1, three lots at 2 and then eight at 1: at the start of step 2 office 2 holds three whole slacks and sends three signals
+  pub three_signals : ComesTo (listed 2 1 (2 ∷ 4 ∷ [])) (lots_at 3 2 ++ lots_at 8 1) (all_accepted 11) (book 2 3 true 7 (8 ∷ 3 ∷ []) (0 ∷ 0 ∷ []))
   -- sends of byte 33: the data frame lost and then twice; the acknowledgement lost; and, with no marks, a first and a second send
   pub lost_then_twice : SendsBy (codes "-+") false 33 (33 ∷ 33 ∷ 512 ∷ 512 ∷ [])
   pub acknowledgement_lost : SendsBy (codes ".-") false 33 (33 ∷ 512 ∷ 33 ∷ 512 ∷ [])
