@@ -9,6 +9,7 @@ BENCH = os.path.dirname(os.path.abspath(__file__))
 ROOT = os.path.dirname(BENCH)
 OUT = os.path.join(BENCH, "out")
 PROVED_CRATE = os.path.join(ROOT, "crates", "zimuralve")
+LIBRARY_CRATE = os.path.join(ROOT, "crates", "playing_library")
 
 RUSTC = ["rustc", "--edition", "2024", "-O", "-C", "target-cpu=x86-64-v2"]
 LONGEST_WAIT_SECONDS = 60
@@ -23,12 +24,26 @@ def build(command, folder):
         sys.exit("bench: this failed: " + " ".join(command))
 
 
-def plain_program():
-    """Builds the program in plain Rust."""
+def compile_rust(source, program, units, more):
+    """Compiles a Rust program, as one unit or in several; tells where it is."""
     os.makedirs(OUT, exist_ok=True)
-    program = os.path.join(OUT, "plain")
-    build(RUSTC + [os.path.join(BENCH, "plain", "main.rs"), "-o", program], BENCH)
-    return program
+    path = os.path.join(OUT, program)
+    build(RUSTC + ["-C", "codegen-units=" + str(units)] + more
+          + [os.path.join(BENCH, source), "-o", path], BENCH)
+    return path
+
+
+def plain_program(units=1):
+    """Builds the program in plain Rust; one unit is what the proved program is compiled as, too."""
+    return compile_rust("plain/main.rs", "plain", units, [])
+
+
+def playing_program():
+    """Builds the program that plays days through the proved library and in plain Rust."""
+    library = os.path.join(LIBRARY_CRATE, "out")
+    if not os.path.exists(os.path.join(library, "libplaying_library.a")):
+        build(["rt", "lib"], LIBRARY_CRATE)
+    return compile_rust("playing.rs", "playing", 1, ["-L", "native=" + library])
 
 
 def proved_program(given):

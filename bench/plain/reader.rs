@@ -35,6 +35,13 @@ impl<'a> Reader<'a> {
         self.text.get(self.place) == Some(&byte)
     }
 
+    // Moves past the byte if it stands here, and tells whether it does.
+    pub fn skip_byte(&mut self, byte: u8) -> bool {
+        let stands = self.stands(byte);
+        self.place += usize::from(stands);
+        stands
+    }
+
     // Moves past the word if it stands here, and tells whether it does.
     pub fn skip(&mut self, word: &[u8]) -> bool {
         let stands = self.rest().starts_with(word);

@@ -44,7 +44,7 @@ fn read_divisors(reader: &mut Reader, grain: u32) -> Result<Vec<u32>, Fault> {
         if divisors.len() == MOST_STEPS {
             return Err(reader.fault(Refusal::OutOfRange));
         }
-        reader.skip(b",");
+        reader.skip_byte(b',');
     }
 }
 
@@ -98,7 +98,7 @@ fn read_lots(reader: &mut Reader, offices: u32) -> Result<Vec<u32>, Fault> {
     }
     loop {
         lots.push(reader.number_in(1..=offices, Refusal::NoSuchOffice)?);
-        if !reader.skip(b",") {
+        if !reader.skip_byte(b',') {
             return Ok(lots);
         }
     }
