@@ -37,10 +37,10 @@ impl<T: Copy> LaneItems<T> {
     }
 
     // The item of a lane, where there is such a lane.
-    pub fn get(&self, lane: u32) -> Option<T>
-        ensures { MatchOption result (length (in_use self.now) ≤ lane) (λ x. (lane < length (in_use self.now)) × (x ≡ slice_index_or (in_use self.now) lane x)) }
+    pub fn get(&self, lane: u32) -> Option<&T>
+        ensures { MatchOption result (length (in_use self.now) ≤ lane) (λ x. (lane < length (in_use self.now)) × (x.now ≡ slice_index_or (in_use self.now) lane x.now)) }
     {
-        self.in_use().get(lane as usize).copied()
+        self.in_use().get(lane as usize)
     }
 
     // Another item for a lane; where there is no such lane nothing changes.

@@ -37,15 +37,15 @@ impl Rows {
 
     // The frames that wait on a lane.
     // Kept: beside the same of posts, since it tells in the words of lanes what `get` tells of items.
-    pub(crate) fn queue(&self, lane: u32) -> Result<Queue<u16>, Fault>
-        ensures { MatchResult result (λ q. (lane < length (lanes_of self.now)) × (queue_lane q ≡ wire_lane (lanes_of self.now) lane)) (λ f. (length (lanes_of self.now) ≤ lane) × (f ≡ no_such_lane lane)) }
+    pub(crate) fn queue(&self, lane: u32) -> Result<&Queue<u16>, Fault>
+        ensures { MatchResult result (λ q. (lane < length (lanes_of self.now)) × (queue_lane q.now ≡ wire_lane (lanes_of self.now) lane)) (λ f. (length (lanes_of self.now) ≤ lane) × (f ≡ no_such_lane lane)) }
     {
         self.queues.get(lane).ok_or(Layer::Wire.fault(Refusal::NoSuchOfficeOrLane, lane as usize))
     }
 
     // The frames that wait on a lane which a frame may be put on.
-    pub(crate) fn open_queue(&self, lane: u32) -> Result<Queue<u16>, Fault>
-        ensures { MatchResult result (λ q. (put_fault (lanes_of self.now) lane ≡ None) × (queue_lane q ≡ wire_lane (lanes_of self.now) lane)) (λ f. put_fault (lanes_of self.now) lane ≡ Some f) }
+    pub(crate) fn open_queue(&self, lane: u32) -> Result<&Queue<u16>, Fault>
+        ensures { MatchResult result (λ q. (put_fault (lanes_of self.now) lane ≡ None) × (queue_lane q.now ≡ wire_lane (lanes_of self.now) lane)) (λ f. put_fault (lanes_of self.now) lane ≡ Some f) }
     {
         let queue = self.queue(lane)?;
         if queue.len() > MOST_PLACES {

@@ -9,6 +9,7 @@ use crate::outcomes::join;
 use crate::rows::Rows;
 use crate::{MarkSource, NoMarks, Wire};
 use fault::{Failure, Fault};
+use marks::Mark;
 use std::alloc::Global;
 
 #[derive(Drop)]
@@ -75,14 +76,23 @@ impl<M: MarkSource> Wire for TableWire<M> {
     }
 
     fn put(&mut self, lane: u32, frame: u16) -> Result<(), Fault> {
-        let mut queue = self.rows.open_queue(lane)?;
-        join(self.marks.next(), &mut queue, frame);
+        let queue = self.rows.open_queue(lane)?;
+        let mark = self.marks.next();
+        if mark == Mark::Lost {
+            return Ok(());
+        }
+        let mut queue = *queue;
+        join(mark, &mut queue, frame);
         self.rows.store(lane, queue);
         Ok(())
     }
 
     fn take(&mut self, lane: u32) -> Result<Option<u16>, Fault> {
-        let mut queue = self.rows.queue(lane)?;
+        let queue = self.rows.queue(lane)?;
+        if queue.len() == 0 {
+            return Ok(None);
+        }
+        let mut queue = *queue;
         let frame = queue.pop();
         self.rows.store(lane, queue);
         Ok(frame)

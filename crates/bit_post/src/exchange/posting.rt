@@ -118,7 +118,7 @@ impl<W: Wire> Post for BitPost<W> {
 
     fn send(&mut self, lane: u32, byte: u8) -> Result<(), Fault> {
         self.table.check_send(lane)?;
-        let bits = self.bits.get(lane).unwrap();
+        let bits = *self.bits.get(lane).unwrap();
         let mut expected = bits.expected;
         let sending = Sending::new(lane, bits.sending, byte);
         let puts = sending.until_acknowledged(&mut self.wire, &mut self.table, &mut expected);

@@ -31,8 +31,8 @@ impl LaneTable {
 
     // The slot of a lane.
     // Kept: beside the same of wires, since it tells in the words of lanes what `get` tells of items.
-    fn slot(&self, lane: u32) -> Result<Slot, Fault>
-        ensures { MatchResult result (λ s. (lane < length (lanes_of self.now)) × (shown s ≡ lane_at (lanes_of self.now) lane)) (λ f. (length (lanes_of self.now) ≤ lane) × (f ≡ lane_fault NoSuchOfficeOrLane lane)) }
+    fn slot(&self, lane: u32) -> Result<&Slot, Fault>
+        ensures { MatchResult result (λ s. (lane < length (lanes_of self.now)) × (shown s.now ≡ lane_at (lanes_of self.now) lane)) (λ f. (length (lanes_of self.now) ≤ lane) × (f ≡ lane_fault NoSuchOfficeOrLane lane)) }
     {
         self.slots.get(lane).ok_or(Layer::Post.fault(Refusal::NoSuchOfficeOrLane, lane as usize))
     }
@@ -59,7 +59,7 @@ impl LaneTable {
         ensures offices { self.new.slots.offices ≡ self.old.slots.offices }
         ensures refused { UnchangedIfErr result self.old self.new }
     {
-        let mut slot = self.slot(lane)?;
+        let mut slot = *self.slot(lane)?;
         slot.send(lane, byte)?;
         self.put(lane, slot);
         Ok(())
@@ -73,12 +73,14 @@ impl LaneTable {
         ensures none { result ≡ Ok None → self.new ≡ self.old }
         ensures total { all_sent (lanes_of self.new) ≡ all_sent (lanes_of self.old) }
     {
-        let mut slot = self.slot(lane)?;
-        let Some(byte) = slot.take() else {
+        let slot = self.slot(lane)?;
+        if slot.waiting_count() == 0 {
             return Ok(None);
-        };
+        }
+        let mut slot = *slot;
+        let byte = slot.take();
         self.put(lane, slot);
-        Ok(Some(byte))
+        Ok(byte)
     }
 
     // How many bytes were ever sent on the lane.
