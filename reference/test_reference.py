@@ -32,6 +32,14 @@ def remainders(window):
     return [office.remainder for office in window.offices]
 
 
+def check_open_at_step_two(window, signals, messages, credits, remainders_left):
+    assert window.coordinator.window_is_open
+    assert window.coordinator.step == 2 and window.coordinator.signals == signals
+    assert window.post.message_count() == messages
+    assert window.coordinator.credits == credits
+    assert remainders(window) == remainders_left
+
+
 def raises_internal_error(call):
     try:
         call()
@@ -227,20 +235,12 @@ def test_second_worked_day():
 def test_third_worked_day():
     for lots in [[1] * 7 + [2] * 5, [2] * 5 + [1] * 7]:
         window = played(2, 2, "halving/2", lots).window
-        assert window.coordinator.window_is_open
-        assert window.coordinator.step == 2 and window.coordinator.signals == 1
-        assert window.post.message_count() == 5
-        assert window.coordinator.credits == [6, 4]
-        assert remainders(window) == [1, 1]
+        check_open_at_step_two(window, 1, 5, [6, 4], [1, 1])
 
 
 def test_fourth_worked_day():
     window = played(2, 1, "halving/3", [2] * 3 + [1] * 8).window
-    assert window.coordinator.window_is_open
-    assert window.coordinator.step == 2 and window.coordinator.signals == 1
-    assert window.post.message_count() == 5
-    assert window.coordinator.credits == [8, 2]
-    assert remainders(window) == [0, 1]
+    check_open_at_step_two(window, 1, 5, [8, 2], [0, 1])
 
 
 def test_fifth_worked_day():
@@ -252,11 +252,7 @@ def test_fifth_worked_day():
 
 def test_day_of_three_signals_at_a_start():
     window = played(2, 1, "listed/2,4", [2] * 3 + [1] * 8).window
-    assert window.coordinator.window_is_open
-    assert window.coordinator.step == 2 and window.coordinator.signals == 3
-    assert window.post.message_count() == 7
-    assert window.coordinator.credits == [8, 3]
-    assert remainders(window) == [0, 0]
+    check_open_at_step_two(window, 3, 7, [8, 3], [0, 0])
 
 
 # ---- RULES.md: what follows from the accepted lots alone ----
