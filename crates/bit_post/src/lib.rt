@@ -6,7 +6,7 @@ ghost use Rattle.post.specs.Lanes.{all_sent};
 ghost use Rattle.post.specs.Tables.{lanes_of};
 
 use offices::LaneItems;
-use post::LaneTable;
+use post::OfficeLanes;
 use wire::Wire;
 
 mod exchange;
@@ -30,7 +30,7 @@ struct LaneBits {
 #[derive(Drop)]
 pub struct BitPost<W: Wire> {
     wire: W,
-    table: LaneTable,
+    table: OfficeLanes,
     bits: LaneItems<LaneBits>,
     frames: u64,
     first_troubles: u32,

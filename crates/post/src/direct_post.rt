@@ -8,13 +8,13 @@ ghost use Rattle.post.specs.Shown.{table_sound};
 ghost use Rattle.std.proofs.Common.{rules};
 
 use crate::Post;
-use crate::lane_table::LaneTable;
+use crate::office_lanes::OfficeLanes;
 use fault::{Fault, Layer};
 use offices::OfficeCount;
 
 #[derive(Drop)]
 pub struct DirectPost {
-    table: LaneTable,
+    table: OfficeLanes,
 }
 
 impl DirectPost {
@@ -24,7 +24,7 @@ impl DirectPost {
         ensures post { IfOk result (λ p. (p.table.slots.offices.number ≡ offices) × (lanes_of p.table ≡ replicate (2 * offices) no_lane)) }
     {
         Ok(DirectPost {
-            table: LaneTable::new(OfficeCount::new(Layer::Post, offices)?),
+            table: OfficeLanes::new(OfficeCount::new(Layer::Post, offices)?),
         })
     }
 }

@@ -9,6 +9,7 @@ ghost use Rattle.post.specs.Outs.{out};
 mod direct_post;
 mod lane_table;
 mod messages;
+mod office_lanes;
 mod slot;
 #[cfg(test)]
 mod tests;
@@ -18,6 +19,7 @@ pub use direct_post::DirectPost;
 use fault::Fault;
 pub use lane_table::LaneTable;
 pub use messages::{MessageCount, message_count};
+pub use office_lanes::OfficeLanes;
 pub use unused::is_unused;
 
 // Office i sends to the coordinator on lane 2i - 2 and hears from it on lane 2i - 1.

@@ -53,3 +53,16 @@ fn from_1_to_64_offices(rt: HostRuntime) -> Result<(), Fail> {
     assert_eq!(rt; refusal_of(post.sent_count(128)), (1, 128));
     Ok(())
 }
+
+#[test]
+fn a_table_serves_any_number_of_offices(rt: HostRuntime) -> Result<(), Fail> {
+    let mut table = LaneTable::new();
+    table.send(64, 5, 9)?;
+    assert_eq!(rt; refusal_of(table.sent_count(2, 5)), (1, 5));
+    assert_eq!(rt; table.sent_count(3, 5)?, 1);
+    assert_eq!(rt; table.sent_count(1_000, 5)?, 1);
+    assert_eq!(rt; refusal_of(table.sent_count(1_000, 128)), (1, 128));
+    assert_eq!(rt; refusal_of(table.take(0, 0)), (1, 0));
+    assert_eq!(rt; table.take(3, 5)?, Some(9));
+    Ok(())
+}

@@ -15,7 +15,7 @@ use super::sending::Sending;
 use crate::{BitPost, FrameCount, LaneBits};
 use fault::{Fault, Layer};
 use offices::{LaneItems, OfficeCount};
-use post::{LaneTable, Post};
+use post::{OfficeLanes, Post};
 use wire::Wire;
 
 impl<W: Wire> BitPost<W> {
@@ -41,7 +41,7 @@ impl<W: Wire> BitPost<W> {
         };
         BitPost {
             wire,
-            table: LaneTable::new(offices),
+            table: OfficeLanes::new(offices),
             bits: LaneItems::new(offices, at_first),
             frames: 0,
             first_troubles,

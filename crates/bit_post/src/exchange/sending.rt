@@ -8,7 +8,7 @@ ghost use Rattle.bit_post.specs.Sending.{delivered, MaySend, Tried, FarAfter, Se
 
 use super::{drain, empty, next, place};
 use crate::frame::Frame;
-use post::LaneTable;
+use post::OfficeLanes;
 use wire::Wire;
 
 // The byte, the bit that it is sent with, its lane, and the lane of the same office the other way, on which it is acknowledged.
@@ -43,7 +43,7 @@ impl Sending {
     fn answer<W: Wire>(
         self,
         wire: &mut W,
-        table: &mut LaneTable,
+        table: &mut OfficeLanes,
         expected: &mut bool,
         bit: bool,
         byte: u8,
@@ -67,7 +67,7 @@ impl Sending {
     fn attempt<W: Wire>(
         self,
         wire: &mut W,
-        table: &mut LaneTable,
+        table: &mut OfficeLanes,
         expected: &mut bool,
         puts: &mut u32,
     ) -> bool
@@ -98,7 +98,7 @@ impl Sending {
     pub(super) fn until_acknowledged<W: Wire>(
         self,
         wire: &mut W,
-        table: &mut LaneTable,
+        table: &mut OfficeLanes,
         expected: &mut bool,
     ) -> u32
         requires there { self.lane < 2 * W.Wire.offices wire.old }
