@@ -3,11 +3,10 @@
 
 ghost use Rattle.std.specs.Prelude.{◌≡◌, ◌*◌, ◌≤◌};
 ghost use Rattle.post.specs.Lanes.{all_sent};
-ghost use Rattle.post.specs.Tables.{lanes_of};
+ghost use Rattle.post.specs.Tables.{slots_shown};
 
 use offices::LaneItems;
-use post::OfficeLanes;
-use wire::Wire;
+use post::LaneTable;
 
 mod exchange;
 mod frame;
@@ -28,13 +27,12 @@ struct LaneBits {
 // A send puts at most 131,072 frames: two, and two for each of 65,535 troubles.
 // Kept: the bits stand in a table beside that of the lanes, since the direct post has none, and a lane table over more than lanes would name a parameter in each clause about them.
 #[derive(Drop)]
-pub struct BitPost<W: Wire> {
+pub struct BitPost<W> {
     wire: W,
-    table: OfficeLanes,
+    table: LaneTable,
     bits: LaneItems<LaneBits>,
     frames: u64,
     first_troubles: u32,
-    ghost same_offices: { W.offices wire ≡ table.slots.offices.number },
-    ghost same_bits: { bits.offices.number ≡ table.slots.offices.number },
-    ghost counted: { frames ≤ 131072 * all_sent (lanes_of table) },
+    ghost all_bits: { bits.offices.number ≡ 64 },
+    ghost counted: { frames ≤ 131072 * all_sent (slots_shown table) },
 }

@@ -16,7 +16,7 @@ use wire::Wire;
 // The frames put for a window's messages, from when the post was made.
 pub fn frames_of<W: Wire>(window: &Window<BitPost<W>>) -> FrameCount
     ensures value { result.count ≡ window.now.post.frames }
-    ensures law { (p : BitPostOf W W.Wire) → Fresh (counts W.Wire.troubles p) → Became (counts W.Wire.troubles p) (counts W.Wire.troubles window.now.post) (W.Wire.ran p.wire window.now.post.wire) → FramesByAttempts (books_of lanes_over window.now).messages result.count (W.Wire.troubles p.wire) (W.Wire.troubles window.now.post.wire) (W.Wire.ran p.wire window.now.post.wire) }
+    ensures law { (p : BitPostOf W) → Fresh (counts W.Wire.offices W.Wire.troubles p) → Became (counts W.Wire.offices W.Wire.troubles p) (counts W.Wire.offices W.Wire.troubles window.now.post) (W.Wire.ran p.wire window.now.post.wire) → FramesByAttempts (books_of (lanes_over W.Wire.offices) window.now).messages result.count (W.Wire.troubles p.wire) (W.Wire.troubles window.now.post.wire) (W.Wire.ran p.wire window.now.post.wire) }
 {
     window.post().frame_count()
 }
@@ -28,8 +28,8 @@ pub fn play_over_wire<W: Wire, L: Ladder + Drop>(
     lots: &[u32],
 ) -> Played<BitPost<W>>
     ensures setting { setting_of result.window ≡ setting_for (W.Wire.offices wire) (L.Ladder.steps ladder) (L.Ladder.slack ladder) }
-    ensures day { DayPlayed lanes_over lots.now result }
-    ensures frames { FramesByAttempts (books_of lanes_over result.window).messages result.window.post.frames (W.Wire.troubles wire) (W.Wire.troubles result.window.post.wire) (W.Wire.ran wire result.window.post.wire) }
+    ensures day { DayPlayed (lanes_over W.Wire.offices) lots.now result }
+    ensures frames { FramesByAttempts (books_of (lanes_over W.Wire.offices) result.window).messages result.window.post.frames (W.Wire.troubles wire) (W.Wire.troubles result.window.post.wire) (W.Wire.ran wire result.window.post.wire) }
 {
     play(BitPost::new(wire), ladder, lots)
 }

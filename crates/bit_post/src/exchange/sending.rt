@@ -1,14 +1,15 @@
 // One send of a byte on a lane: attempts, until one is acknowledged.
 ghost use Rattle.std.specs.Prelude.{◌≡◌, ◌+◌, ◌*◌, ◌/◌, ◌^◌, ◌<◌, ◌≤◌, not, ◌≢◌};
 ghost use Rattle.post.specs.Lanes.{joined};
-ghost use Rattle.post.specs.Tables.{lanes_of};
+ghost use Rattle.post.specs.Tables.{slots_shown};
 ghost use Rattle.wire.specs.Wires.{wire_lane, no_frames, PlacedBy};
 ghost use Rattle.bit_post.specs.Frames.{acknowledgement};
 ghost use Rattle.bit_post.specs.Sending.{delivered, MaySend, Tried, FarAfter, Sent};
 
 use super::{drain, empty, next, place};
 use crate::frame::Frame;
-use post::OfficeLanes;
+use offices::OfficeCount;
+use post::LaneTable;
 use wire::Wire;
 
 // The byte, the bit that it is sent with, its lane, and the lane of the same office the other way, on which it is acknowledged.
@@ -43,21 +44,21 @@ impl Sending {
     fn answer<W: Wire>(
         self,
         wire: &mut W,
-        table: &mut OfficeLanes,
+        table: &mut LaneTable,
         expected: &mut bool,
         bit: bool,
         byte: u8,
     )
         requires there { self.lane < 2 * W.Wire.offices wire.old }
         requires room { (wire_lane (W.Wire.lanes wire.old) self.back).places ≤ 14 }
-        requires ready { expected.old ≡ bit → MaySend (lanes_of table.old) self.lane }
+        requires ready { expected.old ≡ bit → MaySend (slots_shown table.old) self.lane }
         ensures same { W.Wire.offices wire.new ≡ W.Wire.offices wire.old }
         ensures placed { PlacedBy (W.Wire.lanes wire.old) (W.Wire.troubles wire.old) self.back (acknowledgement bit) (W.Wire.lanes wire.new) (W.Wire.troubles wire.new) (W.Wire.ran wire.old wire.new) }
         ensures flips { expected.new ≡ not bit }
-        ensures delivers { lanes_of table.new ≡ delivered bit expected.old (lanes_of table.old) self.lane byte }
+        ensures delivers { slots_shown table.new ≡ delivered bit expected.old (slots_shown table.old) self.lane byte }
     {
         if bit == *expected {
-            table.send(self.lane, byte).unwrap();
+            table.send(OfficeCount::MOST, self.lane, byte).unwrap();
             *expected = !bit;
         }
         place(wire, self.back, Frame::Acknowledgement { bit });
@@ -67,7 +68,7 @@ impl Sending {
     fn attempt<W: Wire>(
         self,
         wire: &mut W,
-        table: &mut OfficeLanes,
+        table: &mut LaneTable,
         expected: &mut bool,
         puts: &mut u32,
     ) -> bool
@@ -75,12 +76,12 @@ impl Sending {
         requires clear { wire_lane (W.Wire.lanes wire.old) self.lane ≡ no_frames }
         requires clean { wire_lane (W.Wire.lanes wire.old) self.back ≡ no_frames }
         requires few { puts.old + 3 < 2 ^ 32 }
-        requires ready { expected.old ≡ self.bit → MaySend (lanes_of table.old) self.lane }
+        requires ready { expected.old ≡ self.bit → MaySend (slots_shown table.old) self.lane }
         ensures same { W.Wire.offices wire.new ≡ W.Wire.offices wire.old }
         ensures clear { wire_lane (W.Wire.lanes wire.new) self.lane ≡ no_frames }
         ensures clean { wire_lane (W.Wire.lanes wire.new) self.back ≡ no_frames }
         ensures tried { Tried result (W.Wire.troubles wire.old) (W.Wire.troubles wire.new) puts.old puts.new (W.Wire.ran wire.old wire.new) }
-        ensures far { FarAfter result self.bit self.lane self.byte expected.old (lanes_of table.old) expected.new (lanes_of table.new) }
+        ensures far { FarAfter result self.bit self.lane self.byte expected.old (slots_shown table.old) expected.new (slots_shown table.new) }
     {
         let Sending { bit, byte, .. } = self;
         place(wire, self.lane, Frame::Data { bit, byte });
@@ -98,15 +99,15 @@ impl Sending {
     pub(super) fn until_acknowledged<W: Wire>(
         self,
         wire: &mut W,
-        table: &mut OfficeLanes,
+        table: &mut LaneTable,
         expected: &mut bool,
     ) -> u32
         requires there { self.lane < 2 * W.Wire.offices wire.old }
         requires agree { expected.old ≡ self.bit }
-        requires ready { MaySend (lanes_of table.old) self.lane }
+        requires ready { MaySend (slots_shown table.old) self.lane }
         ensures same { W.Wire.offices wire.new ≡ W.Wire.offices wire.old }
         ensures flips { expected.new ≡ not self.bit }
-        ensures delivers { lanes_of table.new ≡ joined (lanes_of table.old) self.lane self.byte }
+        ensures delivers { slots_shown table.new ≡ joined (slots_shown table.old) self.lane self.byte }
         ensures sent { Sent (W.Wire.troubles wire.old) (W.Wire.troubles wire.new) result (W.Wire.ran wire.old wire.new) }
         ensures few { result ≤ 131072 }
     {

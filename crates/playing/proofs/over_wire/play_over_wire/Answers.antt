@@ -1,6 +1,6 @@
 use Rattle.std.proofs.Common.{◌*◌, [], sym, ap, ◌∙◌, subst}
 use Rattle.post.specs.Lanes.{Unused}
-use Rattle.post.specs.Tables.{lanes_of}
+use Rattle.post.specs.Tables.{used}
 use Rattle.post.specs.Sends.{unused_new}
 use Rattle.bit_post.specs.Counted.{counts}
 use Rattle.window.specs.Windows.{setting_for}
@@ -16,11 +16,11 @@ returns g c =
     let q = c.play.result.window.post in
     let ladder = c.args.ladder in
     record {
-      setting = c.play.ensures.setting ∙ ap (λ k. setting_for k (g.L.Ladder.steps ladder) (g.L.Ladder.slack ladder)) (sym p.same_offices ∙ c.new.ensures.offices);
-      day = c.play.ensures.day (subst Unused (sym c.new.ensures.lanes) (unused_new (2 * w.offices first)));
-      frames = subst (λ t. FramesByAttempts (counts w.troubles q).sent q.frames t (w.troubles q.wire) (w.ran first q.wire)) c.new.ensures.troubles
-          (frames_since (counts w.troubles p) (counts w.troubles q) (w.ran p.wire q.wire) (w.ran first q.wire)
+      setting = c.play.ensures.setting ∙ ap (λ k. setting_for k (g.L.Ladder.steps ladder) (g.L.Ladder.slack ladder)) c.new.ensures.offices;
+      day = c.play.ensures.day (subst Unused (sym c.new.ensures.in_use) (unused_new (2 * w.offices first)));
+      frames = subst (λ t. FramesByAttempts (counts w.offices w.troubles q).sent q.frames t (w.troubles q.wire) (w.ran first q.wire)) c.new.ensures.troubles
+          (frames_since (counts w.offices w.troubles p) (counts w.offices w.troubles q) (w.ran p.wire q.wire) (w.ran first q.wire)
           (λ xs r. g.met.W.Wire.goes first p.wire q.wire [] xs c.new.ensures.rests r)
-          (record { frames = c.new.ensures.frames; sent = new_sent (2 * w.offices first) (lanes_of p.table) c.new.ensures.lanes; first = c.new.ensures.first ∙ sym c.new.ensures.troubles })
+          (record { frames = c.new.ensures.frames; sent = new_sent (2 * w.offices first) (used (w.offices p.wire) p.table) c.new.ensures.in_use; first = c.new.ensures.first ∙ sym c.new.ensures.troubles })
           c.play.ensures.became);
     }

@@ -1,5 +1,5 @@
 use Rattle.std.proofs.Common.{◌≡◌}
-use Rattle.post.specs.Tables.{lanes_of}
+use Rattle.post.specs.Tables.{slots_shown}
 use Rattle.bit_post.specs.Sending.{Retrying}
 use Rattle.bit_post.proofs.exchange.sending.Sending.until_acknowledged.Given as goal
 
@@ -8,7 +8,7 @@ invariant-attempts g l =
     let w = g.W.Wire in
     let s = l.self in
     (w.offices l.wire ≡ w.offices l.initial.wire)
-    × Retrying s.bit s.lane s.back s.byte (w.lanes l.wire) (w.troubles l.initial.wire) (w.troubles l.wire) l.puts (lanes_of l.initial.table) l.expected (lanes_of l.table) (w.ran l.initial.wire l.wire)
+    × Retrying s.bit s.lane s.back s.byte (w.lanes l.wire) (w.troubles l.initial.wire) (w.troubles l.wire) l.puts (slots_shown l.initial.table) l.expected (slots_shown l.table) (w.ran l.initial.wire l.wire)
 
 abbrev pub decreases-attempts : goal.decreases-attempts
 decreases-attempts g l = g.W.Wire.troubles l.wire
