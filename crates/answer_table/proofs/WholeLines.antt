@@ -1,10 +1,10 @@
 -- The lines of a table, from the first on.
-use Rattle.std.proofs.Common.{◌≡◌, ℕ, suc, ◌<◌, ◌≤◌, List, [], ◌∷◌, ◌++◌, length, take, eqb, Result, sym, ap, ◌∙◌, subst, arith, refl, append_assoc}
+use Rattle.std.proofs.Common.{◌≡◌, ℕ, suc, ◌<◌, ◌≤◌, List, [], ◌∷◌, ◌++◌, length, take, eqb, Result, sym, ap, ◌∙◌, subst, arith, refl}
 use Rattle.std.specs.List.{FoldsTo, before_first, after_first, position_or_len, count_by, slice_split}
 use Rattle.std.proofs.lemmas.List.Splits.{slice_split_first, length-slice_split}
 use Rattle.std.proofs.lemmas.Grind.{common_steps}
 use Rattle.texts.specs.declared.both_texts.Texts.{Texts}
-use Rattle.answer_table.specs.Tables.{CutsAt, whole_lines, AnswersLine, MakesMore}
+use Rattle.answer_table.specs.Tables.{CutsAt, whole_lines, MakesMore}
 
 none_counted : (t : List ℕ) → length t ≤ position_or_len (λ c. eqb c 10) t → count_by (λ c. eqb c 10) t ≡ 0
 none_counted [] h = refl
@@ -20,14 +20,13 @@ first_line t h =
     let counted : count_by p t ≡ suc (count_by p (after_first p t)) = omega (arith, length-slice_split p t, length-slice_split p (after_first p t), ap length cut) in
     ap (λ n. take n (slice_split p t)) counted ∙ ap (λ l. take (suc (count_by p (after_first p t))) l) cut
 
--- the first line of what is left, its answer, and then the others
-pub one_line : {V E : Type 0} (bytes : V → List ℕ) (may : Texts → Result V E → Type 0) (t line rest made answer longer more last : List ℕ) (v : V)
-    → CutsAt 10 t line rest → AnswersLine may line v → answer ≡ bytes v → longer ≡ made ++ answer → more ≡ longer ++ 10 ∷ []
+-- the first line of what is left and its answer, and then the others
+pub one_line : {V E : Type 0} (bytes : V → List ℕ) (may : Texts → Result V E → Type 0) (t line rest made answer more last : List ℕ)
+    → CutsAt 10 t line rest → MakesMore bytes may [] line answer → more ≡ made ++ answer
     → FoldsTo (MakesMore bytes may) more (whole_lines rest) last → FoldsTo (MakesMore bytes may) made (whole_lines t) last
-one_line bytes may t line rest made answer longer more last v cut answered a b c folds =
+one_line bytes may t line rest made answer more last cut (v, answered, is) longer folds =
     let first : whole_lines t ≡ line ∷ whole_lines rest = first_line t cut.0 ∙ (λ i. sym cut.1 i ∷ whole_lines (sym cut.2 i)) in
-    let is : more ≡ made ++ (bytes v ++ 10 ∷ []) = c ∙ ap (λ l. l ++ 10 ∷ []) (b ∙ ap (λ l. made ++ l) a) ∙ append_assoc made (bytes v) (10 ∷ []) in
-    subst (λ (ls : List (List ℕ)). FoldsTo (MakesMore bytes may) made ls last) (sym first) (more, (v, answered, is), folds)
+    subst (λ (ls : List (List ℕ)). FoldsTo (MakesMore bytes may) made ls last) (sym first) (more, (v, answered, longer ∙ ap (λ l. made ++ l) is), folds)
 
 -- no line is left
 pub all_lines : {V E : Type 0} (bytes : V → List ℕ) (may : Texts → Result V E → Type 0) (t made : List ℕ) → length t ≤ position_or_len (λ c. eqb c 10) t → FoldsTo (MakesMore bytes may) made (whole_lines t) made

@@ -1,7 +1,7 @@
 // The lines of a table, and their answers.
-ghost use Rattle.std.specs.Prelude.{◌≡◌, ◌≤◌, length, vec_items, IfOk, MatchOption, ◌==◌};
+ghost use Rattle.std.specs.Prelude.{◌≡◌, ◌≤◌, [], length, vec_items, IfOk, MatchOption, ◌==◌};
 ghost use Rattle.std.specs.List.{position, position_or_len};
-ghost use Rattle.answer_table.specs.Tables.{CutsAt, AnswersLine, AnswersTable};
+ghost use Rattle.answer_table.specs.Tables.{CutsAt, AnswersLine, MakesMore, AnswersTable};
 
 use crate::decode;
 use std::alloc::{AllocError, Global};
@@ -15,7 +15,7 @@ fn first_place(text: &[u8], byte: u8) -> Option<usize>
 }
 
 // What stands before the first such byte, and what stands after it.
-fn split_once(text: &[u8], byte: u8) -> Option<(&[u8], &[u8])>
+pub(crate) fn split_once(text: &[u8], byte: u8) -> Option<(&[u8], &[u8])>
     ensures { MatchOption result (length text.now ≤ position_or_len (λ c. c == byte) text.now) (λ p. CutsAt byte text.now p.0.now p.1.now) }
 {
     let place = first_place(text, byte)?;
@@ -51,6 +51,20 @@ fn answer_line<F: Fn(Global, Texts<'_, '_>) -> Result<Vec<u8>, AllocError>>(
     )
 }
 
+// The answer to one line, and a line end after it.
+pub(crate) fn ended_answer<F: Fn(Global, Texts<'_, '_>) -> Result<Vec<u8>, AllocError>>(
+    heap: Global,
+    line: &[u8],
+    answer: &F,
+) -> Result<Vec<u8>, AllocError>
+    requires { F.IsAlwaysCallable answer.now }
+    ensures { IfOk result (λ v. MakesMore vec_items (λ texts r. F.post answer.now heap texts r) [] line.now v.items) }
+{
+    let mut made = answer_line(heap, line, answer)?;
+    made.push(b'\n')?;
+    Ok(made)
+}
+
 // The answer to each line of the table, and a line end after it; bytes after the last line end are no line.
 pub fn answers<F: Fn(Global, Texts<'_, '_>) -> Result<Vec<u8>, AllocError>>(
     heap: Global,
@@ -63,8 +77,8 @@ pub fn answers<F: Fn(Global, Texts<'_, '_>) -> Result<Vec<u8>, AllocError>>(
     let mut made = Vec::new(heap);
     let mut rest = table;
     while let Some((line, after)) = split_once(rest, b'\n') {
-        made.extend_from_slice(answer_line(heap, line, &answer)?.as_slice())?;
-        made.push(b'\n')?;
+        let ended = ended_answer(heap, line, &answer)?;
+        made.extend_from_slice(ended.as_slice())?;
         rest = after;
     }
     Ok(made)

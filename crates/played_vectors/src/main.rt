@@ -3,9 +3,8 @@
 
 use answer_table::run;
 use answering::answer;
-use std::io;
 
-fn main(rt: HostRuntime) -> io::Result<()> {
+fn main(rt: HostRuntime) -> anyhow::Result<()> {
     // Kept: a closure around `answer`; tried by its name, and a function of another crate gets no proof there.
     run(
         rt.alloc(),
