@@ -22,12 +22,14 @@ impl TryFrom<u8> for Mark {
     ghost try_from_gives = { MarkRead };
 
     fn try_from(byte: u8) -> Result<Mark, Refusal> {
-        match byte {
-            b'.' => Ok(Mark::Once),
-            b'-' => Ok(Mark::Lost),
-            b'+' => Ok(Mark::Twice),
-            _ => Err(Refusal::NotAMark),
+        if !Mark::is_written(byte) {
+            return Err(Refusal::NotAMark);
         }
+        Ok(match byte {
+            b'-' => Mark::Lost,
+            b'+' => Mark::Twice,
+            _ => Mark::Once,
+        })
     }
 }
 
@@ -36,6 +38,6 @@ impl Mark {
     pub fn is_written(byte: u8) -> bool
         ensures { result ≡ is_mark byte }
     {
-        Mark::try_from(byte).is_ok()
+        matches!(byte, b'.' | b'-' | b'+')
     }
 }

@@ -21,14 +21,17 @@ impl Marks {
         requires { length bytes.now ≤ 65535 }
         ensures { MatchResult result (λ m. (marks_left m ≡ map byte_outcome bytes.now) × (m.troubles ≡ costs (map byte_outcome bytes.now))) (λ e. e ≡ NoMemory) }
     {
-        let mut list = VecDeque::new(heap);
+        let mut list = Vec::new(heap);
         let mut troubles = 0;
         for byte in bytes {
             let mark = Mark::try_from(*byte).unwrap_or(Mark::Once);
             troubles += cost(mark);
-            list.push_back(mark)?;
+            list.push(mark)?;
         }
-        Ok(Marks { list, troubles })
+        Ok(Marks {
+            list: VecDeque::from_vec(list),
+            troubles,
+        })
     }
 }
 
