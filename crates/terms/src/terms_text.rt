@@ -1,8 +1,7 @@
 // The text of the terms.
-ghost use Rattle.std.specs.Prelude.{◌≡◌, ◌*◌, vec_items};
+ghost use Rattle.std.specs.Prelude.{◌*◌, ◌≤◌, vec_items, IfOk};
 ghost use Rattle.fault.specs.declared.Refusal.TheVariants.{OutOfRange};
 ghost use Rattle.ladder.specs.Makers.{halving_fits, divisor_fits};
-ghost use Rattle.ladder.specs.Slacks.{product};
 ghost use Rattle.reader.specs.Readings.{number_if};
 ghost use Rattle.reader.specs.Readers.{Answers};
 ghost use Rattle.reader.specs.Answers.{Gives, GivesAt};
@@ -23,26 +22,33 @@ fn steps(reader: &mut Reader<'_>, grain: u32) -> Result<u32, Fault>
     reader.number_if(|steps| halving_fits(grain, steps), Refusal::OutOfRange)
 }
 
-// Whether one more divisor may follow those before it, over `grain`.
-fn may_follow(grain: u32, before: &[u32], divisor: u32) -> bool
-    ensures { result ≡ divisor_fits (grain * product before.now) divisor }
+// The next divisor, where the grain and the divisors before it make `whole`.
+fn divisor(reader: &mut Reader<'_>, whole: u32) -> Result<u32, Fault>
+    ensures value { Answers (number_if (divisor_fits whole) OutOfRange) reader.old result reader.new }
+    ensures bound { IfOk result (λ d. whole * d ≤ 16777216) }
 {
-    let whole = before
-        .iter()
-        .fold(grain, |whole, divisor| whole.saturating_mul(*divisor));
-    divisor_fits(whole, divisor)
+    reader.number_if(|divisor| divisor_fits(whole, divisor), Refusal::OutOfRange)
 }
 
 // One to sixteen divisors with commas between.
+// Kept: a loop of its own beside `Reader::numbers`, whose test is told the numbers before and would multiply them anew for each; tried, and terms with sixteen divisors took half as long again.
 fn divisors(heap: Global, reader: &mut Reader<'_>, grain: u32) -> Result<Vec<u32>, Failure>
     ensures { GivesAt vec_items (divisors_text grain) reader.old result reader.new }
 {
-    reader.numbers(
-        heap,
-        Some(MOST_STEPS),
-        |before, divisor| may_follow(grain, before, divisor),
-        Refusal::OutOfRange,
-    )
+    let mut divisors = Vec::new(heap);
+    let mut whole = grain;
+    loop {
+        let next = divisor(reader, whole)?;
+        divisors.push(next)?;
+        if !reader.stands(words::COMMA) {
+            return Ok(divisors);
+        }
+        if divisors.len() >= MOST_STEPS {
+            return Err(reader.fault(Refusal::OutOfRange).into());
+        }
+        reader.skip(words::COMMA);
+        whole *= next;
+    }
 }
 
 // The ladder: one of its words, and its numbers.
