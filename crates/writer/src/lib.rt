@@ -1,11 +1,13 @@
-// Lines of output, built up in a list of bytes.
+// Lines of output, built up in a list of bytes: the caller's own, or one that a struct holds.
 #![tactic(auto)]
 
 ghost use Rattle.std.specs.Prelude.{◌≡◌, ℕ, List, [], ◌∷◌, ◌++◌, IfSome, OnOk};
 ghost use Rattle.reader.specs.Lists.{commas};
 ghost use Rattle.reader.specs.Readings.{line};
 
-use reader::words;
+mod appending;
+
+pub use appending::{push_line, push_number, push_number_line, push_numbers};
 use std::alloc::{AllocError, Global};
 use std::fmt::Display;
 use std::marker::Model;
@@ -51,9 +53,7 @@ impl Lines {
     pub fn push_line(&mut self, key: &[u8], value: &[u8]) -> Result<(), AllocError>
         ensures { OnOk result (self.new ≡ self.old ++ line key.now value.now []) }
     {
-        self.push(key)?;
-        self.push(value)?;
-        self.end_line()
+        push_line(&mut self.bytes, key, value)
     }
 
     // The digits of a number.
@@ -80,15 +80,7 @@ impl Lines {
     pub fn push_numbers(&mut self, numbers: &[u32]) -> Result<(), AllocError>
         ensures { OnOk result (self.new ≡ self.old ++ commas numbers.now) }
     {
-        let Some((first, others)) = numbers.split_first() else {
-            return Ok(());
-        };
-        self.push_number(*first)?;
-        for other in others {
-            self.push(words::COMMA)?;
-            self.push_number(*other)?;
-        }
-        Ok(())
+        push_numbers(*self.bytes.allocator(), &mut self.bytes, numbers)
     }
 
     // All lines, as bytes.
