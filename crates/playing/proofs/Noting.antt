@@ -144,6 +144,14 @@ late_few : (b : Bool) → cond b 1 0 ≤ 1
 late_few true = omega arith
 late_few false = omega arith
 
+pub noted_accepted : (a : Answer) (closed : Bool) (t : Tally) → (noted a closed t).accepted ≤ t.accepted + 1
+noted_accepted (Ok u) closed t = omega arith
+noted_accepted (Err f) closed t = omega arith
+
+pub noted_late : (a : Answer) (closed : Bool) (t : Tally) → (noted a closed t).late ≤ t.late + 1
+noted_late (Ok u) closed t = omega arith
+noted_late (Err f) closed t = omega (arith, late_few (is_closed f.refusal))
+
 pub noted_counted : (a : Answer) (closed : Bool) (t : Tally) → counted (noted a closed t) ≤ counted t + 1
 noted_counted (Ok u) closed t = omega arith
 noted_counted (Err f) closed t = omega (arith, late_few (is_closed f.refusal))

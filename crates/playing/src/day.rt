@@ -24,6 +24,8 @@ impl<P: Post> Played<P> {
         requires { counted self.old.tally < 2 ^ 63 }
         ensures became { P.Post.became self.old.window.post self.new.window.post }
         ensures setting { setting_of self.new.window ≡ setting_of self.old.window }
+        ensures accepted { self.new.tally.accepted ≤ self.old.tally.accepted + 1 }
+        ensures late { self.new.tally.late ≤ self.old.tally.late + 1 }
         ensures counted { counted self.new.tally ≤ counted self.old.tally + 1 }
         ensures used { self.old.window.used ≡ true → self.new ≡ self.old }
         ensures day { (lots : List ℕ) (answers : List Answer) → DayAt P.Post.lanes lots answers self.old → (a : Answer) × DayAt P.Post.lanes (lots ++ office ∷ []) (answers ++ a ∷ []) self.new }

@@ -7,7 +7,7 @@ use Rattle.window.specs.Windows.{setting_in}
 use Rattle.playing.specs.declared.tally.Tally.{Tally}
 use Rattle.playing.specs.Tallies.{counted, noted}
 use Rattle.playing.specs.Days.{DayAt}
-use Rattle.playing.proofs.Noting.{day_next, open_if_accepted, noted_counted}
+use Rattle.playing.proofs.Noting.{day_next, open_if_accepted, noted_accepted, noted_late, noted_counted}
 use Rattle.playing.proofs.day.Played.next.Goals as goal
 
 unchanged : (closed : Bool) (t : Tally) → noted (Err (fault Window PostUsed 0)) closed t ≡ t
@@ -26,6 +26,8 @@ returns g c =
     record {
       became = lot.became;
       setting = same_setting;
+      accepted = omega (arith, ap (λ (t : Tally). t.accepted) tally, noted_accepted a closed p.tally);
+      late = omega (arith, ap (λ (t : Tally). t.late) tally, noted_late a closed p.tally);
       counted = omega (arith, ap counted tally, noted_counted a closed p.tally);
       used = λ used.
           let z = lot.refused (fault Window PostUsed 0) (cond-true _ _ _ used) in
