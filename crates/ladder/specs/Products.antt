@@ -33,7 +33,7 @@ product_drop_le (x ∷ xs) (suc k) each =
 
 -- one turn of the loop that multiplies
 module _ (s : ℕ) (xs : List ℕ) (i owed : ℕ) (left : s * product (drop i xs) ≡ owed) (here : i < length xs) where
-  multiplied : s * slice_index xs i * product (drop (i + 1) xs) ≡ owed
+  pub multiplied : s * slice_index xs i * product (drop (i + 1) xs) ≡ owed
   multiplied =
       mul_assoc s (slice_index xs i) (product (drop (i + 1) xs)) ∙ ap (λ n. s * n) (sym (at_drop_more product xs i 0 here)) ∙ left
 
