@@ -13,7 +13,7 @@ use post::LaneTable;
 use wire::Wire;
 
 // The byte, the bit that it is sent with, its lane, and the lane of the same office the other way, on which it is acknowledged.
-// Kept: the wire, the table and the expected bit are parameters. A struct that borrows them may have no ghost field, so that each call would require what it does now; one that owned wire and table would have all the clauses about either, and the number of offices too, for the bits beside it.
+// Kept: the wire, the table and the expected bit are parameters. A struct that borrows them may have no ghost field, so that each call would require what it does now; one that owned wire and table would have all the clauses about either.
 #[derive(Clone, Copy)]
 pub(super) struct Sending {
     lane: u32,
