@@ -12,6 +12,7 @@ REFUSED = re.compile(r"^rt: must-fail ([^/]+)/([^ ]+)\.edit: refused, as it must
 FUNCTION = re.compile(r"^\s*(?:pub(?:\([a-z]+\))? )?(?:const )?fn (\w+)")
 BLOCK = re.compile(r"^(?:pub )?(?:impl|trait)\b(.*)$")
 GOAL = re.compile(r"`([A-Za-z_0-9.◌-]+)`")
+SOUGHT = re.compile(r"`search`: no proof of `([^`]+)`")
 
 
 def told_in(logs):
@@ -67,7 +68,9 @@ def function_at(lines, row):
 def place_of(root, crate, file, old):
     with open(os.path.join(root, "crates", crate, file), encoding="utf-8") as source:
         text = source.read()
-    row = text[:text.index(old.strip())].count("\n")
+    # The blanks before a text tell it from the same words elsewhere.
+    start = text.index(old) + len(old) - len(old.lstrip())
+    row = text[:start].count("\n")
     return function_at(text.split("\n"), row)
 
 
@@ -89,6 +92,11 @@ def fact(reason):
         return "the loop's invariant after a pass"
     if goal.endswith("-smaller"):
         return "that the loop ends"
+    sought = SOUGHT.search(reason)
+    if sought:
+        return "that {}".format(cell(sought[1]))
+    if "does not go below 0" in reason:
+        return "that a subtraction does not go below 0"
     return "`{}`".format(goal) if goal else "that control never comes there"
 
 
