@@ -1,6 +1,11 @@
 -- What is known of a writer's bytes after several writes, and once they are flushed.
-use Rattle.std.proofs.Common.{ℕ, List, Some, None, Option, ap, ◌∙◌, ◌++◌, append_assoc}
+use Rattle.std.proofs.Common.{ℕ, List, Some, None, Ok, Err, Option, Result, ap, ◌∙◌, ◌++◌, append_assoc}
+use Rattle.std.specs.Result.{OnOk}
 use Rattle.std.specs.Io.KnownBytes.{Appends, Keeps}
+
+pub on_ok : {T E P : Type 0} (r : Result T E) → P → OnOk r P
+on_ok (Ok x) p = p
+on_ok (Err e) p = tt
 
 pub appends_kept : (a b c : Option (List ℕ)) (bs : List ℕ) → Appends a b bs → Keeps b c → Appends a c bs
 appends_kept None b c bs p k = tt

@@ -4,7 +4,9 @@
 mod decoding;
 mod lines;
 mod streams;
+#[cfg(test)]
+mod tests;
 
 pub use decoding::decode;
 pub use lines::answers;
-pub use streams::run;
+pub use streams::{run, run_by_line};

@@ -3,7 +3,7 @@ use crate::figures::{Figures, figures_of};
 use bit_post::BitPost;
 use fault::Fault;
 use ladder::{Halving, Listed};
-use playing::{Played, frames_of, play};
+use playing::{Played, frames_of, play, play_over_wire};
 use post::{DirectPost, Post};
 use std::process::Abort;
 use std::test::Fail;
@@ -254,5 +254,15 @@ fn frames_of_two_messages(rt: HostRuntime) -> Result<(), Fail> {
     let played = play(BitPost::new(wire), Halving::new(1, 1)?, &[1]);
     assert_eq!(rt; frames_of(&played.window).number(), 6);
     assert_eq!(rt; played.window.post().troubles_used(), 2);
+    Ok(())
+}
+
+// Two lost data frames for the signal, none for the close: four frames and two.
+#[test]
+fn frames_of_a_day_over_a_wire(rt: HostRuntime) -> Result<(), Fail> {
+    let wire = MarkedWire::new(rt.alloc(), 1, b"--")?;
+    let played = play_over_wire(wire, Halving::new(1, 1)?, &[1]);
+    assert_eq!(rt; frames_of(&played.window).number(), 6);
+    assert_eq!(rt; played.window.messages().number(), 2);
     Ok(())
 }

@@ -1,5 +1,6 @@
 // A day of lots by the alternating bit over any wire, and the frames that it takes.
-ghost use Rattle.std.specs.Prelude.{◌≡◌};
+ghost use Rattle.std.specs.Prelude.{◌≡◌, ◌*◌, ◌≤◌};
+ghost use Rattle.post.specs.Lanes.{all_sent};
 ghost use Rattle.bit_post.specs.Became.{Became};
 ghost use Rattle.bit_post.specs.Counted.{counts};
 ghost use Rattle.bit_post.specs.declared.BitPost.{BitPost as BitPostOf};
@@ -30,6 +31,7 @@ pub fn play_over_wire<W: Wire, L: Ladder + Drop>(
     ensures setting { setting_of result.window ≡ setting_for (W.Wire.offices wire) (L.Ladder.steps ladder) (L.Ladder.slack ladder) }
     ensures day { DayPlayed (lanes_over W.Wire.offices) lots.now result }
     ensures frames { FramesByAttempts (books_of (lanes_over W.Wire.offices) result.window).messages result.window.post.frames (W.Wire.troubles wire) (W.Wire.troubles result.window.post.wire) (W.Wire.ran wire result.window.post.wire) }
+    ensures counted { result.window.post.frames ≤ 131072 * all_sent (lanes_over W.Wire.offices result.window.post) }
 {
     play(BitPost::new(wire), ladder, lots)
 }
