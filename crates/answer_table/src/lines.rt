@@ -60,9 +60,9 @@ pub(crate) fn ended_answer<F: Fn(Global, Texts<'_, '_>) -> Result<Vec<u8>, Alloc
     requires { F.IsAlwaysCallable answer.now }
     ensures { IfOk result (λ v. MakesMore vec_items (λ texts r. F.post answer.now heap texts r) [] line.now v.items) }
 {
-    let mut made = answer_line(heap, line, answer)?;
-    made.push(b'\n')?;
-    Ok(made)
+    let mut ended = answer_line(heap, line, answer)?;
+    ended.push(b'\n')?;
+    Ok(ended)
 }
 
 // The answer to each line of the table, and a line end after it; bytes after the last line end are no line.
@@ -77,8 +77,8 @@ pub fn answers<F: Fn(Global, Texts<'_, '_>) -> Result<Vec<u8>, AllocError>>(
     let mut made = Vec::new(heap);
     let mut rest = table;
     while let Some((line, after)) = split_once(rest, b'\n') {
-        let ended = ended_answer(heap, line, &answer)?;
-        made.extend_from_slice(ended.as_slice())?;
+        made.extend_from_slice(answer_line(heap, line, &answer)?.as_slice())?;
+        made.push(b'\n')?;
         rest = after;
     }
     Ok(made)

@@ -1,4 +1,4 @@
-// A table in memory, whose answers are written all at once.
+// A table in memory: its answers, and how a failure is told.
 use super::*;
 use std::alloc::{AllocError, Global};
 use std::io::ErrorKind;
@@ -15,7 +15,7 @@ fn both(heap: Global, texts: Texts<'_, '_>) -> Result<Vec<u8>, AllocError> {
 }
 
 #[test]
-fn answers_of_all_lines_at_once(rt: HostRuntime) -> Result<(), Fail> {
+fn answers_of_all_lines(rt: HostRuntime) -> Result<(), Fail> {
     let heap = rt.alloc();
     let mut table: &[u8] = b"a\\sb c\nd\n\nno line end";
     let mut written = Vec::new(heap);
