@@ -257,12 +257,13 @@ fn frames_of_two_messages(rt: HostRuntime) -> Result<(), Fail> {
     Ok(())
 }
 
-// Two lost data frames for the signal, none for the close: four frames and two.
+// Two lost acknowledgements for the signal, none for the close: six frames and two, the most that two troubles can take.
 #[test]
 fn frames_of_a_day_over_a_wire(rt: HostRuntime) -> Result<(), Fail> {
-    let wire = MarkedWire::new(rt.alloc(), 1, b"--")?;
+    let wire = MarkedWire::new(rt.alloc(), 1, b".-.-")?;
     let played = play_over_wire(wire, Halving::new(1, 1)?, &[1]);
-    assert_eq!(rt; frames_of(&played.window).number(), 6);
+    assert_eq!(rt; frames_of(&played.window).number(), 8);
     assert_eq!(rt; played.window.messages().number(), 2);
+    assert_eq!(rt; played.window.post().troubles_used(), 2);
     Ok(())
 }
